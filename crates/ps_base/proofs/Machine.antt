@@ -1,0 +1,45 @@
+-- Laws of machines of small steps.
+use Rattle.std.proofs.Common.{◌≡◌, ℕ, zero, suc, ◌+◌, ◌-◌, ◌≤◌, List, refl, sym, ap, ◌∙◌, subst, arith}
+use Rattle.std.specs.Prelude.{◌≢◌}
+use Rattle.ps_base.specs.declared.world.Event.{Event}
+use Rattle.ps_base.specs.Outcome.{Outcome, Outcomes, End, Running, Begins}
+use Rattle.ps_base.specs.Agree.{Grows, KeepsWhatItHas}
+use Rattle.ps_base.specs.Machine.{Move, Goes, Ends, Machine, greater, outcome_at, after_move, run_from, machine_run, OnlyAdds, Steps}
+use Rattle.ps_base.proofs.Fronts.{begins_self, begins_trans}
+use Rattle.ps_base.proofs.Following.{growing_keeps}
+use Rattle.ps_base.proofs.Greater.{greater_ge_left}
+
+module _ {S : Type 0} (M : Machine S) where
+  begins_move : OnlyAdds M → (go : ℕ → S → Outcome) → ((d : ℕ) (t : S) → Begins (M.events t) (go d t).events) → (depth : ℕ) (s : S) (v : Move S) → M.step s ≡ v → Begins (M.events s) (after_move M v s depth go).events
+  begins_move add go h depth s (Goes t) e = begins_trans _ _ _ (add.by s t e) (h depth t)
+  begins_move add go h depth s (Ends f) e = begins_self (M.events s)
+
+  -- a run begins with the events of its state
+  pub begins_run : OnlyAdds M → (n depth : ℕ) (s : S) → Begins (M.events s) (run_from M n depth s).events
+  begins_run add zero depth s = begins_self (M.events s)
+  begins_run add (suc n) depth s = begins_move add (λ d t. run_from M n d t) (begins_run add n) (greater depth (M.frames s)) s (M.step s) refl
+
+  grows_move : (f g : ℕ → S → Outcome) → ((d : ℕ) (t : S) → Grows (f d t) (g d t)) → (depth : ℕ) (s : S) (v : Move S) → Grows (after_move M v s depth f) (after_move M v s depth g)
+  grows_move f g h depth s (Goes t) = h depth t
+  grows_move f g h depth s (Ends e) = record { stays = λ q. refl; adds = begins_self (M.events s) }
+
+  grows_run : OnlyAdds M → (n depth : ℕ) (s : S) → Grows (run_from M n depth s) (run_from M (suc n) depth s)
+  grows_run add zero depth s = record { stays = λ h. absurd (h refl); adds = begins_run add 1 depth s }
+  grows_run add (suc n) depth s = grows_move (λ d t. run_from M n d t) (λ d t. run_from M (suc n) d t) (grows_run add n) (greater depth (M.frames s)) s (M.step s)
+
+  pub machine_keeps : OnlyAdds M → (s : S) → KeepsWhatItHas (machine_run M s)
+  machine_keeps add s =
+      growing_keeps (machine_run M s) (λ n. let e : suc n ≡ n + 1 = omega arith in subst (λ (m : ℕ). Grows (machine_run M s n) (machine_run M s m)) e (grows_run add n 0 s))
+
+  -- after j steps the run goes on from there
+  pub after_steps : (j depth : ℕ) (s t : S) → Steps M j s t → (d : ℕ) × ((k : ℕ) → run_from M (j + k) depth s ≡ run_from M k d t)
+  after_steps zero depth s t e = (depth, λ k. let z : 0 + k ≡ k = omega arith in ap (λ (n : ℕ). run_from M n depth s) z ∙ ap (λ (u : S). run_from M k depth u) e)
+  after_steps (suc j) depth s t h =
+      let rest = after_steps j (greater depth (M.frames s)) h.0 t h.2 in (
+        rest.0,
+        λ k.
+            let z : suc j + k ≡ suc (j + k) = omega arith in
+            ap (λ (n : ℕ). run_from M n depth s) z
+            ∙ ap (λ (v : Move S). after_move M v s (greater depth (M.frames s)) (λ d u. run_from M (j + k) d u)) h.1
+            ∙ rest.1 k,
+      )

@@ -1,0 +1,69 @@
+-- Tables of texts over an index set.
+use Rattle.std.proofs.Common.{◌≡◌, ◌≢◌, ℕ, zero, suc, ◌+◌, ◌<◌, ◌≤◌, List, [], ◌∷◌, ◌++◌, length, map, Option, Some, None, refl, sym, ap, ◌∙◌, subst, arith, Bool, true, false, not, cond, ◌||◌, ◌⊎◌, inl, inr, ⊎_elim}
+use Rattle.std.proofs.Common.{Vec, Global}
+use Rattle.std.specs.Prelude.{slice_get}
+use Rattle.std.specs.List.{list_any, find, position_or_len}
+use Rattle.std.specs.Str.{bytes_eq}
+use Rattle.std.proofs.lemmas.Slice.Eq.{bytes_eq-Decides}
+use Rattle.std.proofs.lemmas.Option.{slice_get_within}
+use Rattle.ps_base.specs.Names.{AreDistinct, IsNew}
+
+pub true_or_false : (b : Bool) → (b ≡ true) ⊎ (b ≡ false)
+true_or_false true = inl refl
+true_or_false false = inr refl
+
+-- what is found passes the test
+pub find-passes : {X : Type 0} (p : X → Bool) (xs : List X) (x : X) → find p xs ≡ Some x → p x ≡ true
+find-passes p [] x h = cc
+find-passes p (y ∷ xs) x h =
+    ⊎_elim
+    (λ yes. let e : Some y ≡ Some x = sym (ap (λ t. cond t (Some y) (find p xs)) yes) ∙ h in let same : y ≡ x = cc in subst (λ z. p z ≡ true) same yes)
+    (λ no. find-passes p xs x (sym (ap (λ t. cond t (Some y) (find p xs)) no) ∙ h))
+    (true_or_false (p y))
+
+-- where no member passes, the place is the list's length
+pub none-passes : {X : Type 0} (p : X → Bool) (xs : List X) → list_any p xs ≡ false → position_or_len p xs ≡ length xs
+none-passes p [] h = refl
+none-passes p (y ∷ xs) h =
+    ⊎_elim
+    (λ yes. let e : true ≡ false = sym (ap (λ t. t || list_any p xs) yes) ∙ h in cc)
+    (λ no.
+    let rest = none-passes p xs (sym (ap (λ t. t || list_any p xs) no) ∙ h) in
+    ap (λ t. cond (not t) (1 + position_or_len p xs) 0) no ∙ omega (arith, rest))
+    (true_or_false (p y))
+
+or-false : (a b : Bool) → (a || b) ≡ false → (a ≡ false) × (b ≡ false)
+or-false true b h = cc
+or-false false b h = (refl, h)
+
+-- a text that no member equals is new
+pub none-new : (keys : List (Vec ℕ Global)) (text : List ℕ) → list_any (λ k. bytes_eq text k.items) keys ≡ false → IsNew (map (λ k. k.items) keys) text
+none-new [] text h zero e = cc
+none-new [] text h (suc i) e = cc
+none-new (k ∷ keys) text h zero e =
+    let parts = or-false (bytes_eq text k.items) (list_any (λ k. bytes_eq text k.items) keys) h in
+    let same : text ≡ k.items = cc in
+    let yes = (bytes_eq-Decides text k.items).1 same in
+    let no = parts.0 in
+    cc
+none-new (k ∷ keys) text h (suc i) e =
+    let parts = or-false (bytes_eq text k.items) (list_any (λ k. bytes_eq text k.items) keys) h in
+    none-new keys text parts.1 i e
+
+front-or-last : (xs : List (List ℕ)) (y t : List ℕ) (i : ℕ) → slice_get (xs ++ y ∷ []) i ≡ Some t → (slice_get xs i ≡ Some t) ⊎ ((i ≡ length xs) × (t ≡ y))
+front-or-last [] y t zero h = inr (refl, cc)
+front-or-last [] y t (suc i) h = cc
+front-or-last (x ∷ xs) y t zero h = inl h
+front-or-last (x ∷ xs) y t (suc i) h = ⊎_elim (λ f. inl f) (λ l. inr (omega (arith, l.0), l.1)) (front-or-last xs y t i h)
+
+-- a table with a new text at its end has distinct texts
+pub distinct-more : (texts : List (List ℕ)) (text : List ℕ) → AreDistinct texts → IsNew texts text → AreDistinct (texts ++ text ∷ [])
+distinct-more texts text d new i j t h k =
+    ⊎_elim
+    (λ a. ⊎_elim (λ b. d i j t a b) (λ b. absurd (new i (a ∙ ap (λ x. Some x) b.1))) (front-or-last texts text t j k))
+    (λ a. ⊎_elim (λ b. absurd (new j (b ∙ ap (λ x. Some x) a.1))) (λ b. a.0 ∙ sym b.0) (front-or-last texts text t j k))
+    (front-or-last texts text t i h)
+
+pub none-distinct : AreDistinct []
+none-distinct zero j t h k = cc
+none-distinct (suc i) j t h k = cc

@@ -1,0 +1,11 @@
+pub mod Limits
+pub mod Faults
+pub mod Numbers
+pub mod Names
+pub mod SinkStates
+pub mod Sinks
+pub mod Texts
+pub mod Worlds
+pub mod Outcome
+pub mod Agree
+pub mod Machine

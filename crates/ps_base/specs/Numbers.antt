@@ -1,0 +1,28 @@
+-- Integers of 64 bits in two's complement, and counters that stop at the last number of 64 bits (this project's own).
+use Rattle.std.specs.Prelude.{ℕ, ℤ, pos, negsuc, ◌+◌, ◌-◌, ◌<◌, ◌≤◌, min, Bool, Option, Some, None, nat_lt, if◌then◌else◌}
+
+-- the integer has 64 bits: it is from -2^63 to 2^63 - 1
+abbrev pub IsWord : ℤ → Type 0
+IsWord (pos n) = n < 9223372036854775808
+IsWord (negsuc n) = n < 9223372036854775808
+
+-- the same as a test
+abbrev pub is_word : ℤ → Bool
+is_word (pos n) = nat_lt n 9223372036854775808
+is_word (negsuc n) = nat_lt n 9223372036854775808
+
+-- the integer, where it has 64 bits
+abbrev pub fit : ℤ → Option ℤ
+fit i = if is_word i then Some i else None
+
+-- the last number of 64 bits
+abbrev pub last : ℕ
+last = 18446744073709551615
+
+-- the counter n after k more: it stands still at its last number
+abbrev pub more : ℕ → ℕ → ℕ
+more n k = n + min k (last - n)
+
+-- a count of faults rose, or stands at its last number
+abbrev pub Rose : ℕ → ℕ → Type 0
+Rose old new = min (old + 1) last ≤ new
