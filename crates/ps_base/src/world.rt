@@ -3,7 +3,7 @@
 ghost use Rattle.std.specs.Prelude.{◌≡◌};
 ghost use Rattle.ps_base.specs.Worlds.{next_byte, next_grant, rest_of};
 
-use crate::items::{Bytes, Flags};
+use crate::items::{Bytes, Flags, Items};
 use std::marker::Model;
 
 /// Why an operation has no meaning for its operands.
@@ -31,6 +31,9 @@ pub enum Event {
     /// This byte was written.
     Output(i64),
 }
+
+/// Operations in the order in which they were performed.
+pub type Events = Items<Event>;
 
 /// The input of a program, and for each of its allocations in order whether it is granted.
 #[derive(Drop)]

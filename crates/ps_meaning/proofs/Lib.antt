@@ -1,0 +1,4 @@
+pub mod Trees
+mod Longer
+pub mod Bounds
+pub mod Grammar

@@ -1,0 +1,4 @@
+pub mod Text
+pub mod Run
+pub mod Meaning
+pub mod Laws
