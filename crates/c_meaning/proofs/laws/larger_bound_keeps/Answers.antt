@@ -1,0 +1,5 @@
+use Rattle.c_meaning.proofs.Machines.{larger_bound}
+use Rattle.c_meaning.proofs.laws.larger_bound_keeps.Goals as goal
+
+pub returns : goal.returns
+returns c = larger_bound

@@ -1,0 +1,8 @@
+-- The law of the machine.
+use Rattle.ps_base.specs.Agree.{KeepsWhatItHas}
+use Rattle.ps_base.specs.Worlds.{Surroundings}
+use Rattle.c_meaning.specs.declared.unit.CUnit.{CUnit}
+use Rattle.c_meaning.specs.Machine.{CRun}
+
+abbrev pub LargerBoundKeeps : Type 0
+LargerBoundKeeps = (u : CUnit) (w : Surroundings) → KeepsWhatItHas (CRun u w)

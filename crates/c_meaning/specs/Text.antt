@@ -1,0 +1,75 @@
+-- The text of a unit (the subset of C99 6.7 to 6.9 that is written, with the macros of C99 7.18.4).
+use Rattle.std.specs.Prelude.{◌≡◌, ℕ, zero, suc, ℤ, pos, negsuc, List, [], ◌∷◌, ◌++◌, if◌then◌else◌, ◌==◌, codes, decimal}
+use Rattle.ps_base.specs.Texts.{◌&◌}
+use Rattle.c_meaning.specs.declared.unit.Atom.{Atom}
+use Rattle.c_meaning.specs.declared.unit.Atom.TheVariants as atoms
+use Rattle.c_meaning.specs.declared.unit.Statement.{Statement}
+use Rattle.c_meaning.specs.declared.unit.Statement.TheVariants as statements
+use Rattle.c_meaning.specs.declared.unit.CUnit.{CUnit}
+use Rattle.c_meaning.specs.declared.prelude.TheConstants.{PRELUDE}
+use Rattle.c_meaning.specs.WellFormed.{IsWellFormed}
+
+-- a constant that is not negative
+unfoldable pub natural_text : ℕ → List ℕ
+natural_text n = codes "INT64_C(" & decimal n & codes ")"
+
+-- the negative of a constant
+unfoldable pub negative_text : ℕ → List ℕ
+negative_text n = codes "(-INT64_C(" & decimal n & codes "))"
+
+-- an integer of 64 bits; the least one has no literal of its own (C99 6.4.4.1)
+unfoldable pub integer_text : ℤ → List ℕ
+integer_text (pos n) = natural_text n
+integer_text (negsuc n) = if n == 9223372036854775807 then codes "(-INT64_C(9223372036854775807)-INT64_C(1))" else negative_text (suc n)
+
+unfoldable pub atom_text : Atom → List ℕ
+atom_text (atoms.Variable k) = codes "v" & decimal k
+atom_text (atoms.Integer i) = integer_text i
+
+-- a statement's line, without its end
+unfoldable pub statement_text : Statement → List ℕ
+statement_text (statements.Move k a) = codes "  v" & decimal k & codes " = " & atom_text a & codes ";"
+statement_text (statements.Add k a b) = codes "  v" & decimal k & codes " = " & atom_text a & codes " + " & atom_text b & codes ";"
+statement_text (statements.Return a) = codes "  return " & atom_text a & codes ";"
+
+-- The lines after the prelude: the function's declaration, the head of its definition, a variable, a statement, the end of the definition, and the C program's own main.
+pub data Line : Type 0 where
+  Announces : Line
+  Opens : Line
+  Declares : (variable : ℕ) → Line
+  Does : (statement : Statement) → Line
+  Closes : Line
+  Main : Line
+
+unfoldable pub line_text : Line → List ℕ
+line_text Announces = codes "static int64_t ps_f0(void);"
+line_text Opens = codes "static int64_t ps_f0(void) {"
+line_text (Declares k) = codes "  int64_t v" & decimal k & codes ";"
+line_text (Does s) = statement_text s
+line_text Closes = codes "}"
+line_text Main = codes "int main(void) { return (int)(ps_f0() & 255); }"
+
+-- lines, each with byte 10 behind it
+unfoldable pub lines_text : List Line → List ℕ
+lines_text [] = []
+lines_text (l ∷ ls) = line_text l & codes "\n" & lines_text ls
+
+-- the variables from k on, so many
+unfoldable pub variable_lines : ℕ → ℕ → List Line
+variable_lines k zero = []
+variable_lines k (suc n) = Declares k ∷ variable_lines (suc k) n
+
+unfoldable pub statement_lines : List Statement → List Line
+statement_lines [] = []
+statement_lines (s ∷ ss) = Does s ∷ statement_lines ss
+
+unfoldable pub unit_lines : CUnit → List Line
+unit_lines u = Announces ∷ Opens ∷ (variable_lines 0 u.locals ++ (statement_lines u.statements ++ (Closes ∷ Main ∷ [])))
+
+unfoldable pub text_of : CUnit → List ℕ
+text_of u = PRELUDE.now & lines_text (unit_lines u)
+
+-- The grammar: the bytes are the text of the unit, which is well formed.
+pub record CText (bytes : List ℕ) (u : CUnit) : Type 0 where
+  pub well_formed : IsWellFormed u
+  pub text : bytes ≡ text_of u
