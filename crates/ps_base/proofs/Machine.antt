@@ -43,3 +43,10 @@ module _ {S : Type 0} (M : Machine S) where
             ∙ ap (λ (v : Move S). after_move M v s (greater depth (M.frames s)) (λ d u. run_from M (j + k) d u)) h.1
             ∙ rest.1 k,
       )
+
+  -- steps and then more steps
+  pub steps_join : (j k : ℕ) (s t u : S) → Steps M j s t → Steps M k t u → Steps M (j + k) s u
+  steps_join zero k s t u e h = let z : k ≡ 0 + k = omega arith in subst (λ (n : ℕ). Steps M n s u) z (subst (λ (x : S). Steps M k x u) (sym e) h)
+  steps_join (suc j) k s t u h i =
+      let z : suc (j + k) ≡ suc j + k = omega arith in
+      subst (λ (n : ℕ). Steps M n s u) z (h.0, h.1, steps_join j k h.0 t u h.2 i)

@@ -1,0 +1,6 @@
+mod Reading
+mod Spelling
+mod Integers
+mod UnitLines
+mod Formed
+mod Correct
