@@ -1,11 +1,11 @@
 -- Tokens of a text.
-use Rattle.std.proofs.Common.{◌≡◌, ℕ, ◌+◌, ◌≤◌, ◌⊎◌, inl, inr, ⊎_elim, List, [], ◌∷◌, length, take, drop, get_or, sym, ◌∙◌, ap, refl, subst, Bool, true, false, cond, suc, arith, nat_eq, ◌||◌, if◌then◌else◌}
+use Rattle.std.proofs.Common.{◌≡◌, ℕ, ◌+◌, ◌≤◌, ◌⊎◌, inl, inr, ⊎_elim, List, [], ◌∷◌, length, take, drop, get_or, sym, ◌∙◌, ap, refl, subst, Bool, true, false, cond, suc, arith}
 use Rattle.std.specs.List.{prefix_len}
-use Rattle.ps_meaning.specs.Text.{class, Class, is_white, White, OpenBracket, CloseBracket, Delimiter, Part, is_part, tokens, Token, Open, Close, Mark, Word, join, before, begins_run}
+use Rattle.ps_meaning.specs.Text.{class, Class, White, OpenBracket, CloseBracket, Delimiter, Part, is_part, tokens, Token, Open, Close, Mark, Word, join, before, begins_run}
 use Rattle.std.proofs.Common.{Result, Ok, Err}
 use Rattle.std.specs.Result.{IsErrAnd}
 use Rattle.psc.specs.declared.read.Unread.{Unread}
-use Rattle.psc.specs.Reading.{part, IsUnread, IsNotBuilt, begins_white}
+use Rattle.psc.specs.Reading.{part, IsUnread, IsNotBuilt}
 
 pub true_or_false : (b : Bool) → (b ≡ true) ⊎ (b ≡ false)
 true_or_false true = inl refl
@@ -18,6 +18,7 @@ part-is CloseBracket h = cc
 part-is Delimiter h = cc
 part-is Part h = refl
 
+-- where no run begins, the run is empty
 no_run : (bs : List ℕ) → begins_run bs ≡ false → prefix_len part bs ≡ 0
 no_run [] h = refl
 no_run (b ∷ bs) h = ap (λ t. cond t (1 + prefix_len part bs) 0) h
@@ -36,49 +37,32 @@ run-tokens (b ∷ bs) h =
     (λ none. is ∙ ap (λ t. before Part b t (tokens bs)) none ∙ sym (ap (λ m. Word (b ∷ take m bs) ∷ tokens (drop m bs)) (no_run bs none)))
     (true_or_false (begins_run bs)))
 
--- what is neither white, nor a bracket, nor part of a run
-pub other-is : (b : ℕ) → is_white b ≡ false → nat_eq b 40 ≡ false → nat_eq b 41 ≡ false → part b ≡ false → class b ≡ Delimiter
-other-is b w o c p =
-    let e : class b ≡ (if nat_eq b 34 || nat_eq b 59 then Delimiter else Part) = simp (w, o, c) in
-    ⊎_elim
-    (λ yes. e ∙ ap (λ t. if t then Delimiter else Part) yes)
-    (λ no. let f : class b ≡ Part = e ∙ ap (λ t. if t then Delimiter else Part) no in let g : part b ≡ true = ap is_part f in cc)
-    (true_or_false (nat_eq b 34 || nat_eq b 59))
-
--- a text by its first byte
-pub tokens-first : (bs : List ℕ) (b : ℕ) (k : Class) → 1 ≤ length bs → get_or bs 0 0 ≡ b → class b ≡ k → tokens bs ≡ before k b (begins_run (drop 1 bs)) (tokens (drop 1 bs))
-tokens-first [] b k l e h = absurd (omega arith)
-tokens-first (x ∷ bs) b k l e h = ap (λ y. before (class y) y (begins_run bs) (tokens bs)) e ∙ ap (λ t. before t b (begins_run bs) (tokens bs)) h
-
+-- a text whose first byte is part of a run begins with one
 pub starts : (bs : List ℕ) (b : ℕ) → 1 ≤ length bs → get_or bs 0 0 ≡ b → part b ≡ true → begins_run bs ≡ true
 starts [] b l e h = absurd (omega arith)
 starts (x ∷ bs) b l e h = ap part e ∙ h
-
-pub not_white : (bs : List ℕ) (b : ℕ) → 1 ≤ length bs → get_or bs 0 0 ≡ b → begins_white bs ≡ false → is_white b ≡ false
-not_white [] b l e h = absurd (omega arith)
-not_white (x ∷ bs) b l e h = ap is_white (sym e) ∙ h
 
 -- an error that `?` passes on is the same one
 pub still-unread : {A : Type 0} (r : Result A Unread) (e : Unread) → IsErrAnd r (λ x. x ≡ e) → IsUnread r → IsNotBuilt e
 still-unread (Ok x) e h u = absurd u
 still-unread (Err x) e h u = subst IsNotBuilt h u
 
--- nothing is longer than the text
-pub length-tokens : (bs : List ℕ) → length (tokens bs) ≤ length bs
+-- a text has no more tokens than bytes
+pub length-tokens : (text : List ℕ) → length (tokens text) ≤ length text
 length-tokens [] = omega arith
 length-tokens (b ∷ bs) = let h : length (tokens (b ∷ bs)) ≤ length bs + 1 = longer (class b) (begins_run bs) (tokens bs) (length-tokens bs) in omega arith
   where
-    joined : (ps : List Token) → length (join b ps) ≤ length ps + 1
+    joined : (ts : List Token) → length (join b ts) ≤ length ts + 1
     joined [] = omega arith
-    joined (Open ∷ ps) = omega arith
-    joined (Close ∷ ps) = omega arith
-    joined (Mark ∷ ps) = omega arith
-    joined (Word r ∷ ps) = omega arith
+    joined (Open ∷ ts) = omega arith
+    joined (Close ∷ ts) = omega arith
+    joined (Mark ∷ ts) = omega arith
+    joined (Word r ∷ ts) = omega arith
 
-    longer : (k : Class) (run : Bool) (ps : List Token) → length ps ≤ length bs → length (before k b run ps) ≤ length bs + 1
-    longer White run ps h = omega arith
-    longer OpenBracket run ps h = omega arith
-    longer CloseBracket run ps h = omega arith
-    longer Delimiter run ps h = omega arith
-    longer Part true ps h = omega (arith, joined ps)
-    longer Part false ps h = omega arith
+    longer : (k : Class) (run : Bool) (ts : List Token) → length ts ≤ length bs → length (before k b run ts) ≤ length bs + 1
+    longer White run ts h = omega arith
+    longer OpenBracket run ts h = omega arith
+    longer CloseBracket run ts h = omega arith
+    longer Delimiter run ts h = omega arith
+    longer Part true ts h = omega (arith, joined ts)
+    longer Part false ts h = omega arith

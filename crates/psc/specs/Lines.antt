@@ -1,5 +1,5 @@
 -- The line that a refused run writes, and the status of each answer (this project's own).
-use Rattle.std.specs.Prelude.{ℕ, ◌<◌, List, [], length, Option, None, Some, slice_get, codes, decimal}
+use Rattle.std.specs.Prelude.{ℕ, List, [], Option, None, Some, slice_get, codes, decimal}
 use Rattle.ps_base.specs.Texts.{◌&◌}
 use Rattle.ps_base.specs.Faults.{number_of}
 use Rattle.ps_base.specs.declared.faults.Fault.{Fault}
@@ -99,7 +99,7 @@ abbrev pub text_or_none : Option (List ℕ) → List ℕ
 text_or_none None = []
 text_or_none (Some text) = text
 
--- the text of a name by the table of names
+-- the text of a name by the table of names; one that is not there has none
 unfoldable pub name_text : List (List ℕ) → Name → List ℕ
 name_text names name = text_or_none (slice_get names name.0)
 
@@ -146,34 +146,3 @@ abbrev pub status : Answer → ℕ
 status answers.Done = 0
 status (answers.Refused fault) = number_of fault
 status answers.NoMemory = 20
-
--- the names that an answer speaks of stand in the table of names
-abbrev pub FaultNamesStand : List (List ℕ) → Fault → Type 0
-FaultNamesStand names (faults.Usage word) = Unit {0}
-FaultNamesStand names faults.Source = Unit {0}
-FaultNamesStand names faults.Sink = Unit {0}
-FaultNamesStand names (faults.Library k) = Unit {0}
-FaultNamesStand names (faults.TooLong file) = Unit {0}
-FaultNamesStand names (faults.Syntax kind p) = Unit {0}
-FaultNamesStand names (faults.Module kind p) = Unit {0}
-FaultNamesStand names (faults.Form kind p) = Unit {0}
-FaultNamesStand names (faults.ExpansionSpent n) = Unit {0}
-FaultNamesStand names (faults.CoreSpent n) = Unit {0}
-FaultNamesStand names (faults.StaticWrong p) = Unit {0}
-FaultNamesStand names (faults.StaticUndefined op p) = Unit {0}
-FaultNamesStand names (faults.StaticRunOnly p) = Unit {0}
-FaultNamesStand names (faults.BudgetSpent n) = Unit {0}
-FaultNamesStand names (faults.CellsSpent n) = Unit {0}
-FaultNamesStand names (faults.Survives kind p) = Unit {0}
-FaultNamesStand names (faults.TypeFault structure name p) = (structure.0 < length names) × (name.0 < length names)
-FaultNamesStand names (faults.Unresolved position p) = Unit {0}
-FaultNamesStand names (faults.KeysSpent n) = Unit {0}
-FaultNamesStand names (faults.InlineSpent p) = Unit {0}
-FaultNamesStand names (faults.TooWide n p) = Unit {0}
-FaultNamesStand names (faults.CodeSpent n) = Unit {0}
-FaultNamesStand names (faults.NotBuilt p) = Unit {0}
-
-abbrev pub NamesStand : List (List ℕ) → Answer → Type 0
-NamesStand names answers.Done = Unit {0}
-NamesStand names (answers.Refused fault) = FaultNamesStand names fault
-NamesStand names answers.NoMemory = Unit {0}

@@ -1,9 +1,9 @@
 //! The line that a refused run writes.
 
-ghost use Rattle.std.specs.Prelude.{◌≡◌, ℕ, ◌<◌, List, length, decimal, codes};
+ghost use Rattle.std.specs.Prelude.{◌≡◌, ℕ, List, decimal, codes};
 ghost use Rattle.ps_base.specs.Sinks.{Adds, Writes};
 ghost use Rattle.ps_base.specs.Texts.{◌&◌};
-ghost use Rattle.psc.specs.Lines.{place_text, at_place, of_kind, with_number, name_text, definition_text, width_text, fault_text, answer_line, NamesStand, FaultNamesStand};
+ghost use Rattle.psc.specs.Lines.{place_text, at_place, of_kind, with_number, name_text, definition_text, width_text, fault_text, answer_line};
 
 use crate::answer::Answer;
 use crate::kinds::{
@@ -51,10 +51,13 @@ fn put_with_number<O: Sink>(out: &mut O, so_far: Written, words: &[u8], number: 
 }
 
 fn put_name<O: Sink>(out: &mut O, so_far: Written, names: &Names, name: Name) -> Written
-    requires { name.0 < length names.now }
     ensures { Adds (O.shows out.old) so_far (O.shows out.new) result (name_text names.now name) }
 {
-    put(out, so_far, names.text(name))
+    if name.0 < names.len() {
+        put(out, so_far, names.text(name))
+    } else {
+        put(out, so_far, b"")
+    }
 }
 
 fn put_definition<O: Sink>(
@@ -65,8 +68,6 @@ fn put_definition<O: Sink>(
     name: Name,
     place: Place,
 ) -> Written
-    requires structure { structure.0 < length names.now }
-    requires name { name.0 < length names.now }
     ensures { Adds (O.shows out.old) so_far (O.shows out.new) result (definition_text names.now structure name place) }
 {
     let so_far = put(out, so_far, b"13 type ");
@@ -88,7 +89,6 @@ fn put_width<O: Sink>(out: &mut O, so_far: Written, width: u64, place: Place) ->
 
 // The number and the words of a fault.
 fn put_fault<O: Sink>(out: &mut O, so_far: Written, names: &Names, fault: Fault) -> Written
-    requires { FaultNamesStand names.now fault }
     ensures { Adds (O.shows out.old) so_far (O.shows out.new) result (fault_text names.now fault) }
 {
     match fault {
@@ -132,10 +132,10 @@ fn put_fault<O: Sink>(out: &mut O, so_far: Written, names: &Names, fault: Fault)
     }
 }
 
-/// Writes the line of an answer, which is `psc: `, the fault's number and its words. `Done` has no line. It fails only
+/// Writes the line of an answer, which is `psc: `, the fault's number and its words. `Done` has no line. The names that a
+/// fault speaks of are printed by their texts in the table; a name that is not there is printed as nothing. It fails only
 /// where the sink's count of faults rose; then a front of the line was appended. It takes no memory.
 pub fn write_fault<E: Sink>(answer: &Answer, names: &Names, errors: &mut E) -> Result<(), SinkFault>
-    requires { NamesStand names.now answer.now }
     ensures { Writes (E.shows errors.old) (E.shows errors.new) (answer_line names.now answer.now) result }
 {
     match answer {

@@ -45,3 +45,6 @@ fn main(rt: HostRuntime) -> ExitCode {
     let answer = run_psc(rt.alloc(), &words, &mut input, &mut output, &mut errors);
     ExitCode::from(status_of(&answer))
 }
+
+#[cfg(test)]
+mod tests;

@@ -36,7 +36,7 @@ impl From<AllocError> for Unread {
 }
 
 // What stands first in a text, after whitespace.
-#[derive(Clone, Copy, Debug)]
+#[derive(Clone, Copy)]
 enum Lexeme<'a> {
     End,
     Open,
@@ -45,12 +45,14 @@ enum Lexeme<'a> {
     Word(&'a [u8]),
 }
 
+// The byte is whitespace.
 fn is_white(b: u8) -> bool
     ensures { result ≡ is_white b }
 {
-    b == b' ' || b == b'\t' || b == b'\n' || b == 12 || b == b'\r'
+    b == b' ' || b == b'\t' || b == b'\n' || b == b'\x0c' || b == b'\r'
 }
 
+// The byte is part of a run.
 fn is_part(b: u8) -> bool
     ensures { result ≡ part b }
 {
@@ -246,6 +248,3 @@ pub fn read_program(alloc: Global, text: &[u8]) -> Result<Expr, Unread>
     }
     Ok(e)
 }
-
-#[cfg(test)]
-mod tests;

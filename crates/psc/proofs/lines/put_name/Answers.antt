@@ -1,6 +1,12 @@
-use Rattle.psc.specs.Lines.{name_text}
+use Rattle.std.proofs.Common.{◌≡◌, length, ◌≤◌, arith}
+use Rattle.std.proofs.lemmas.Option.{slice_get_past}
+use Rattle.psc.specs.Lines.{name_text, text_or_none}
 use Rattle.psc.proofs.lines.put_name.Goals as goal
 
-pub returns : goal.returns
+pub returns-then-name-len : goal.returns-then-name-len
 unfolding name_text
-returns g c = rw c.text.ensures c.put.ensures
+returns-then-name-len g c = rw c.text.ensures c.put.ensures
+
+pub returns-else-name-len : goal.returns-else-name-len
+unfolding name_text
+returns-else-name-len g c = rw (slice_get_past c.args.names.now c.args.name.0 (omega arith)) c.put-else-name-len.ensures
