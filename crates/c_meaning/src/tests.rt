@@ -1,4 +1,4 @@
-//! Units that are run statement by statement.
+//! The prelude's size, and units that are run statement by statement.
 
 ghost use Rattle.c_meaning.specs.WellFormed.{IsWellFormed};
 
@@ -6,6 +6,13 @@ use crate::*;
 use ps_base::{Items, Op, World};
 use std::alloc::Global;
 use std::test::Fail;
+
+#[test]
+fn prelude_has_34_lines(rt: HostRuntime) {
+    assert_eq!(rt; PRELUDE.len(), 2816);
+    assert_eq!(rt; PRELUDE.iter().filter(|b| **b == b'\n').count(), 34);
+    assert_eq!(rt; PRELUDE.last(), Some(&b'\n'));
+}
 
 // What the first three steps of the unit do.
 fn three_steps(alloc: Global, unit: &CUnit) -> Result<[StepOut; 3], Fail>
