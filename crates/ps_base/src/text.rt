@@ -32,7 +32,7 @@ pub fn put_number<O: Sink>(out: &mut O, so_far: Written, number: u64) -> Written
 
 /// A way to write the members of a list.
 pub trait Style<T> {
-    /// The text of the member at a place, where places are counted as the caller of `put_each` says.
+    /// The text of the member at a place.
     ghost text: { ℕ → T → List ℕ };
 
     /// Appends the text of the member at a place, unless a fault came before.
@@ -40,7 +40,8 @@ pub trait Style<T> {
         ensures { Adds (O.shows out.old) so_far (O.shows out.new) result (text place item.now) };
 }
 
-/// Appends each member in order, unless a fault came before; the first has the place `first`. The places must have 64 bits.
+/// Appends each member in order, unless a fault came before; the first has the place `first`. The place behind the last
+/// must have 64 bits.
 pub fn put_each<S: Style<T>, T, O: Sink>(
     out: &mut O,
     so_far: Written,

@@ -89,7 +89,7 @@ impl World {
         }
     }
 
-    /// Whether the next allocation is granted.
+    /// Takes the next grant: whether the next allocation is granted. Past the end of the grants it is refused.
     pub fn granted(&mut self) -> bool
         ensures answer { result ≡ next_grant self.old.grants }
         ensures rest { self.new ≡ record self.old { grants = rest_of self.old.grants } }
