@@ -11,3 +11,6 @@ pub use laws::larger_bound_keeps;
 pub use machine::{CState, StepOut, step};
 pub use prelude::PRELUDE;
 pub use unit::{Atom, CUnit, Statement};
+
+#[cfg(test)]
+mod tests;

@@ -10,7 +10,8 @@ use ps_base::{Events, Items, NoMemory, Op, World};
 use std::alloc::Global;
 use std::marker::Model;
 
-/// The state of a run: the variables of the function, of which some are set, and the place of the next statement.
+/// The state of a run between two statements. Contracts see the variables, each with its value where it was assigned, and
+/// the place of the next statement.
 #[derive(Debug, Drop)]
 pub struct CState {
     locals: Items<Option<i64>>,
@@ -32,12 +33,17 @@ pub enum StepOut {
     Going,
     /// The function returned this.
     Returned(i64),
-    /// The statement has no meaning in this state.
+    /// The statement has no meaning in this state: `Unset` where it reads a variable that was never assigned, and
+    /// `Overflow` where its sum has no 64 bits.
     Stuck(Op),
 }
 
 impl CState {
-    /// The state before the first statement, where no variable is set.
+    /// The state before the first statement, where no variable is set. The unit must be well formed.
+    ///
+    /// # Errors
+    ///
+    /// `NoMemory` where memory for the variables runs out.
     pub fn start(alloc: Global, unit: &CUnit) -> Result<CState, NoMemory>
         requires { IsWellFormed unit.now }
         ensures first { IfOk result (λ state. state ≡ starts_at unit.now) }
@@ -68,7 +74,7 @@ fn value_of(locals: &[Option<i64>], atom: Atom) -> Option<i64>
 }
 
 /// Performs one statement of the unit that the state was started for. A result, or a statement without a meaning, leaves
-/// the state, the world and the events as they were.
+/// the state, the world and the events as they were, so the next step gives the same.
 pub fn step(unit: &CUnit, state: &mut CState, world: &mut World, events: &mut Events) -> StepOut
     requires { Stands unit.now state.old }
     ensures steps { Steps unit.now result state.old state.new world.old world.new events.old events.new }

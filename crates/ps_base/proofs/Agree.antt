@@ -1,10 +1,10 @@
 -- To agree is transitive.
-use Rattle.std.proofs.Common.{◌≡◌, ℕ, ℤ, ◌+◌, ◌≤◌, List, refl, sym, ap, ◌∙◌, subst, inl, inr, ⊎_elim, arith}
+use Rattle.std.proofs.Common.{ℕ, List, inl, inr, ⊎_elim}
 use Rattle.std.specs.Prelude.{◌⊎◌}
 use Rattle.ps_base.specs.declared.world.Event.{Event}
-use Rattle.ps_base.specs.Outcome.{Outcome, Outcomes, End, Returned, IsUndefined, Begins}
-use Rattle.ps_base.specs.Agree.{IsUndefinedWithin, IsReturned, DoesAll, DoesOnly, Agree, AgreeIsTransitive}
-use Rattle.ps_base.proofs.Fronts.{begins_self, begins_eq, begins_trans, comparable}
+use Rattle.ps_base.specs.Outcome.{Outcome, Outcomes, Begins}
+use Rattle.ps_base.specs.Agree.{IsUndefinedWithin, IsReturned, DoesAll, DoesOnly, AgreeIsTransitive}
+use Rattle.ps_base.proofs.Fronts.{begins_trans, comparable}
 
 pub undefined_longer : (o : Outcome) (t u : List Event) → IsUndefinedWithin o t → Begins t u → IsUndefinedWithin o u
 undefined_longer o t u h b = record { ends = h.ends; before = begins_trans o.events t u h.before b }

@@ -1,15 +1,11 @@
 -- A run that follows another step by step agrees with it.
-use Rattle.std.proofs.Common.{◌≡◌, ℕ, zero, suc, ℤ, ◌+◌, ◌-◌, ◌*◌, ◌≤◌, List, refl, sym, ap, ◌∙◌, subst, inl, inr, ⊎_elim, arith}
-use Rattle.std.specs.Prelude.{◌⊎◌, ◌≢◌, ◌<◌}
+use Rattle.std.proofs.Common.{◌≡◌, ℕ, zero, suc, ◌+◌, ◌-◌, ◌*◌, ◌≤◌, refl, sym, ap, ◌∙◌, subst, inl, inr, ⊎_elim, arith}
+use Rattle.std.specs.Prelude.{◌≢◌}
 use Rattle.std.proofs.Math.Nat.{le_of_mul-le-mul_left}
-use Rattle.std.proofs.lemmas.Bool.{cases_lt}
-use Rattle.ps_base.specs.declared.world.Event.{Event}
-use Rattle.ps_base.specs.declared.world.Op.{Op}
-use Rattle.ps_base.specs.Outcome.{Outcome, Outcomes, End, Returned, Running, Undefined, Stuck, Wrong, StoppedAtCells, Begins, IsSound, IsUndefined}
-use Rattle.ps_base.specs.Agree.{IsUndefinedWithin, IsReturned, DoesAll, DoesOnly, Agree, KeepsWhatItHas, Progresses, FollowsAt, Matches, StandsFor, FollowingGivesAgree, Grows, GrowingKeeps, IsDefined, DoTheSame}
+use Rattle.ps_base.specs.Outcome.{Outcome, Outcomes, End, Running, Begins}
+use Rattle.ps_base.specs.Agree.{IsUndefinedWithin, IsReturned, DoesAll, Agree, Progresses, FollowsAt, StandsFor, FollowingGivesAgree, Grows, GrowingKeeps, IsDefined, DoTheSame}
 use Rattle.ps_base.proofs.Fronts.{begins_self, begins_eq, begins_trans}
-use Rattle.ps_base.proofs.Agree.{undefined_longer, undefined_before}
-use Rattle.ps_base.proofs.Progress.{is_running_or_not, progress, sound_over, events_grow}
+use Rattle.ps_base.proofs.Progress.{is_running_or_not, progress}
 
 module _ (share : ℕ) (X Y : Outcomes) (follows : (n : ℕ) → FollowsAt share X Y n) where
   following_does_all : DoesAll X Y

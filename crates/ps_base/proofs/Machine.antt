@@ -1,13 +1,10 @@
 -- Laws of machines of small steps.
-use Rattle.std.proofs.Common.{◌≡◌, ℕ, zero, suc, ◌+◌, ◌-◌, ◌≤◌, List, refl, sym, ap, ◌∙◌, subst, arith}
-use Rattle.std.specs.Prelude.{◌≢◌}
-use Rattle.ps_base.specs.declared.world.Event.{Event}
-use Rattle.ps_base.specs.Outcome.{Outcome, Outcomes, End, Running, Begins}
+use Rattle.std.proofs.Common.{◌≡◌, ℕ, zero, suc, ◌+◌, refl, sym, ap, ◌∙◌, subst, arith}
+use Rattle.ps_base.specs.Outcome.{Outcome, Begins}
 use Rattle.ps_base.specs.Agree.{Grows, KeepsWhatItHas}
-use Rattle.ps_base.specs.Machine.{Move, Goes, Ends, Machine, greater, outcome_at, after_move, run_from, machine_run, OnlyAdds, Steps}
+use Rattle.ps_base.specs.Machine.{Move, Goes, Ends, Machine, greater, after_move, run_from, machine_run, OnlyAdds, Steps}
 use Rattle.ps_base.proofs.Fronts.{begins_self, begins_trans}
 use Rattle.ps_base.proofs.Following.{growing_keeps}
-use Rattle.ps_base.proofs.Greater.{greater_ge_left}
 
 module _ {S : Type 0} (M : Machine S) where
   begins_move : OnlyAdds M → (go : ℕ → S → Outcome) → ((d : ℕ) (t : S) → Begins (M.events t) (go d t).events) → (depth : ℕ) (s : S) (v : Move S) → M.step s ≡ v → Begins (M.events s) (after_move M v s depth go).events
@@ -15,7 +12,7 @@ module _ {S : Type 0} (M : Machine S) where
   begins_move add go h depth s (Ends f) e = begins_self (M.events s)
 
   -- a run begins with the events of its state
-  pub begins_run : OnlyAdds M → (n depth : ℕ) (s : S) → Begins (M.events s) (run_from M n depth s).events
+  begins_run : OnlyAdds M → (n depth : ℕ) (s : S) → Begins (M.events s) (run_from M n depth s).events
   begins_run add zero depth s = begins_self (M.events s)
   begins_run add (suc n) depth s = begins_move add (λ d t. run_from M n d t) (begins_run add n) (greater depth (M.frames s)) s (M.step s) refl
 

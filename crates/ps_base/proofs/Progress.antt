@@ -1,12 +1,11 @@
 -- The law of progress.
-use Rattle.std.proofs.Common.{◌≡◌, ℕ, ℤ, ◌+◌, ◌≤◌, List, refl, sym, ap, ◌∙◌, subst, inl, inr, ⊎_elim, arith}
+use Rattle.std.proofs.Common.{◌≡◌, ℕ, ℤ, ◌≤◌, List, refl, sym, ap, ◌∙◌, subst, inl, inr, ⊎_elim, arith}
 use Rattle.std.specs.Prelude.{◌⊎◌, ◌≢◌, ◌<◌}
 use Rattle.std.proofs.lemmas.Bool.{cases_lt}
 use Rattle.ps_base.specs.declared.world.Event.{Event}
-use Rattle.ps_base.specs.declared.world.Op.{Op}
 use Rattle.ps_base.specs.Outcome.{Outcome, Outcomes, End, Returned, Running, Undefined, Stuck, Wrong, StoppedAtCells, IsUndefined, IsSound, Begins}
-use Rattle.ps_base.specs.Agree.{IsUndefinedWithin, IsReturned, DoesAll, DoesOnly, KeepsWhatItHas, Progresses, ProgressGivesAgree}
-use Rattle.ps_base.proofs.Fronts.{begins_self, begins_eq, begins_trans, comparable}
+use Rattle.ps_base.specs.Agree.{IsUndefinedWithin, IsReturned, DoesAll, KeepsWhatItHas, Progresses, ProgressGivesAgree}
+use Rattle.ps_base.proofs.Fronts.{begins_eq, begins_trans, comparable}
 
 -- an end is Running or not
 pub is_running_or_not : (e : End) → (e ≡ Running) ⊎ (e ≢ Running)

@@ -1,11 +1,10 @@
 -- Tables of texts over an index set.
-use Rattle.std.proofs.Common.{◌≡◌, ◌≢◌, ℕ, zero, suc, ◌+◌, ◌<◌, ◌≤◌, List, [], ◌∷◌, ◌++◌, length, map, Option, Some, None, refl, sym, ap, ◌∙◌, subst, arith, Bool, true, false, not, cond, ◌||◌, ◌⊎◌, inl, inr, ⊎_elim}
+use Rattle.std.proofs.Common.{◌≡◌, ℕ, zero, suc, ◌+◌, List, [], ◌∷◌, ◌++◌, length, map, Some, refl, sym, ap, ◌∙◌, subst, arith, Bool, true, false, not, cond, ◌||◌, ◌⊎◌, inl, inr, ⊎_elim}
 use Rattle.std.proofs.Common.{Vec, Global}
 use Rattle.std.specs.Prelude.{slice_get}
 use Rattle.std.specs.List.{list_any, find, position_or_len}
 use Rattle.std.specs.Str.{bytes_eq}
 use Rattle.std.proofs.lemmas.Slice.Eq.{bytes_eq-Decides}
-use Rattle.std.proofs.lemmas.Option.{slice_get_within}
 use Rattle.ps_base.specs.Names.{AreDistinct, IsNew}
 
 pub true_or_false : (b : Bool) → (b ≡ true) ⊎ (b ≡ false)
@@ -63,7 +62,3 @@ distinct-more texts text d new i j t h k =
     (λ a. ⊎_elim (λ b. d i j t a b) (λ b. absurd (new i (a ∙ ap (λ x. Some x) b.1))) (front-or-last texts text t j k))
     (λ a. ⊎_elim (λ b. absurd (new j (b ∙ ap (λ x. Some x) a.1))) (λ b. a.0 ∙ sym b.0) (front-or-last texts text t j k))
     (front-or-last texts text t i h)
-
-pub none-distinct : AreDistinct []
-none-distinct zero j t h k = cc
-none-distinct (suc i) j t h k = cc

@@ -1,5 +1,5 @@
 -- One text is written after another.
-use Rattle.std.proofs.Common.{◌≡◌, ℕ, zero, suc, ◌+◌, ◌-◌, ◌<◌, ◌≤◌, ◌^◌, ◌⊎◌, inl, inr, min, List, [], ◌∷◌, ◌++◌, length, take, drop, Option, Some, None, Result, Ok, Err, refl, sym, ap, subst, ◌∙◌, append_assoc, arith, length-append, get_or, drop-cons, add-one}
+use Rattle.std.proofs.Common.{◌≡◌, ℕ, suc, ◌+◌, ◌-◌, ◌<◌, ◌≤◌, List, [], ◌∷◌, ◌++◌, length, take, drop, Option, Some, None, Result, Ok, Err, refl, sym, ap, subst, ◌∙◌, append_assoc, arith, length-append, get_or, drop-cons, add-one}
 use Rattle.std.specs.Option.{option_map}
 use Rattle.std.proofs.lemmas.List.{append-nil, take-append-drop, take_all, nil_from_length, length-drop}
 use Rattle.ps_base.specs.declared.sink.SinkFault.{SinkFault}
@@ -16,7 +16,7 @@ number_join : (o : Option ℕ) (a b c : ℕ) → c ≡ a + b → option_map (λ 
 number_join None a b c e = refl
 number_join (Some n) a b c e = ap (λ (x : ℕ). Some x) (omega arith)
 
-pub appended_join : (s t u : SinkState) (a b : List ℕ) → Appended s t a → Appended t u b → Appended s u (a ++ b)
+appended_join : (s t u : SinkState) (a b : List ℕ) → Appended s t a → Appended t u b → Appended s u (a ++ b)
 appended_join s t u a b h k = record {
   bytes = k.bytes ∙ ap (option_map (λ bs. bs ++ b)) h.bytes ∙ bytes_join s.bytes a b;
   number = k.number ∙ ap (option_map (λ n. more n (length b))) h.number ∙ number_join s.number (length a) (length b) (length (a ++ b)) (length-append a b);
@@ -26,7 +26,7 @@ appended_join s t u a b h k = record {
 rose_after : (a b c : ℕ) → a ≤ b → Rose b c → Rose a c
 rose_after a b c le h = omega arith
 
-pub cut_join : (s t u : SinkState) (a b : List ℕ) → Appended s t a → Cut t u b → Cut s u (a ++ b)
+cut_join : (s t u : SinkState) (a b : List ℕ) → Appended s t a → Cut t u b → Cut s u (a ++ b)
 cut_join s t u a b h k = record {
   front = a ++ k.front;
   rest = k.rest;
@@ -35,7 +35,7 @@ cut_join s t u a b h k = record {
   rose = rose_after s.faults t.faults u.faults h.faults k.rose;
 }
 
-pub cut_more : (s t : SinkState) (a b : List ℕ) → Cut s t a → Cut s t (a ++ b)
+cut_more : (s t : SinkState) (a b : List ℕ) → Cut s t a → Cut s t (a ++ b)
 cut_more s t a b h = record {
   front = h.front;
   rest = h.rest ++ b;
@@ -44,26 +44,9 @@ cut_more s t a b h = record {
   rose = h.rose;
 }
 
-pub writes_join : (s t u : SinkState) (a b : List ℕ) (r : Result (Unit {0}) SinkFault) → Appended s t a → Writes t u b r → Writes s u (a ++ b) r
+writes_join : (s t u : SinkState) (a b : List ℕ) (r : Result (Unit {0}) SinkFault) → Appended s t a → Writes t u b r → Writes s u (a ++ b) r
 writes_join s t u a b (Ok x) h k = appended_join s t u a b h k
 writes_join s t u a b (Err e) h k = cut_join s t u a b h k
-
--- with the word for one text and then another
-pub appended_then : (s t u : SinkState) (a b : List ℕ) → Appended s t a → Appended t u b → Appended s u (a & b)
-unfolding ◌&◌
-appended_then = appended_join
-
-pub cut_then : (s t u : SinkState) (a b : List ℕ) → Appended s t a → Cut t u b → Cut s u (a & b)
-unfolding ◌&◌
-cut_then = cut_join
-
-pub cut_first : (s t : SinkState) (a b : List ℕ) → Cut s t a → Cut s t (a & b)
-unfolding ◌&◌
-cut_first = cut_more
-
-pub writes_then : (s t u : SinkState) (a b : List ℕ) (r : Result (Unit {0}) SinkFault) → Appended s t a → Writes t u b r → Writes s u (a & b) r
-unfolding ◌&◌
-writes_then = writes_join
 
 bytes_same : (o : Option (List ℕ)) → o ≡ option_map (λ bs. bs ++ []) o
 bytes_same None = refl
@@ -80,7 +63,7 @@ pub cut_nothing : (s t : SinkState) (text : List ℕ) → Appended s t [] → Ro
 cut_nothing s t text h r = record { front = []; rest = text; parts = refl; appended = h; rose = r }
 
 -- a part of the text was written, and then the rest
-pub writes_part : (s t u : SinkState) (text : List ℕ) (k : ℕ) (r : Result (Unit {0}) SinkFault) → Appended s t (take k text) → Writes t u (drop k text) r → Writes s u text r
+writes_part : (s t u : SinkState) (text : List ℕ) (k : ℕ) (r : Result (Unit {0}) SinkFault) → Appended s t (take k text) → Writes t u (drop k text) r → Writes s u text r
 writes_part s t u text k r h w = subst (λ (x : List ℕ). Writes s u x r) (take-append-drop k text) (writes_join s t u (take k text) (drop k text) r h w)
 
 pub writes_rest : (s t u : SinkState) (text : List ℕ) (k n : ℕ) (r : Result (Unit {0}) SinkFault) → n ≡ length text - k → Appended s t (take k text) → Writes t u (take n (drop k text)) r → Writes s u text r
@@ -89,14 +72,9 @@ writes_rest s t u text k n r e h w = writes_part s t u text k r h (subst (λ (x 
 pub appended_empty : (s : SinkState) (text : List ℕ) → length text ≡ 0 → Appended s s text
 appended_empty s text e = subst (λ (x : List ℕ). Appended s s x) (sym (nil_from_length text e)) (appended_nothing s)
 
-pub ruleset writing = (appended_then, cut_then, cut_first, writes_then)
-
 pub adds_then : (s t u : SinkState) (q r x : Result (Unit {0}) SinkFault) (a b : List ℕ) → Adds s q t r a → Adds t r u x b → Adds s q u x (a & b)
 unfolding ◌&◌
 adds_then s t u q r x a b h k = record { holds = λ start front w. subst (λ (y : List ℕ). Writes start u y x) (append_assoc front a b) (k.holds start (front ++ a) (h.holds start front w)) }
-
-adds_failed : (s : SinkState) (e f : SinkFault) (text : List ℕ) → Adds s (Err e) s (Err f) text
-adds_failed s e f text = record { holds = λ start front w. cut_more start s front text w }
 
 pub adds_written : (s t : SinkState) (r : Result (Unit {0}) SinkFault) (text : List ℕ) (done : Unit {0}) → Writes s t text r → Adds s (Ok done) t r text
 adds_written s t r text done w = record { holds = λ start front h. writes_join start s t front text r h w }

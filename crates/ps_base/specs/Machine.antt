@@ -1,7 +1,7 @@
 -- A machine of small steps, whatever its states are, and its runs.
-use Rattle.std.specs.Prelude.{◌≡◌, ℕ, zero, suc, ◌+◌, ◌<◌, ◌≤◌, ◌⊎◌, List, nat_lt, cond}
+use Rattle.std.specs.Prelude.{◌≡◌, ℕ, zero, suc, List, nat_lt, cond}
 use Rattle.ps_base.specs.declared.world.Event.{Event}
-use Rattle.ps_base.specs.Outcome.{Outcome, Outcomes, End, Running, Begins, IsUndefined}
+use Rattle.ps_base.specs.Outcome.{Outcome, Outcomes, End, Running, Begins}
 
 -- what a step does
 pub data Move (S : Type 0) : Type 0 where

@@ -1,5 +1,5 @@
 -- What writing does to a sink (this project's own).
-use Rattle.std.specs.Prelude.{◌≡◌, ℕ, ◌+◌, ◌<◌, ◌≤◌, List, [], ◌++◌, length, take, Option, Result, Ok, Err}
+use Rattle.std.specs.Prelude.{◌≡◌, ℕ, ◌<◌, ◌≤◌, List, [], ◌++◌, length, take, Result, Ok, Err}
 use Rattle.std.specs.Option.{option_map}
 use Rattle.ps_base.specs.Numbers.{more, Rose}
 use Rattle.ps_base.specs.SinkStates.{SinkState}

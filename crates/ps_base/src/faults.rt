@@ -7,79 +7,116 @@ use crate::memory::NoMemory;
 use crate::names::Name;
 use crate::world::Op;
 
-/// A place in a text. Lines and columns count from 1, a column counts bytes, and a line ends after byte 10. File 0 is the
-/// input; file k is the k-th fetched file, counted from 1.
+/// A place in a text.
 #[derive(Clone, Copy, Debug, PartialEq, Eq)]
 pub struct Place {
+    /// 0 is the input, and k is the k-th fetched file, counted from 1.
     pub file: u32,
+    /// The line, counted from 1. A line ends after byte 10.
     pub line: u32,
+    /// The byte in its line, counted from 1.
     pub column: u32,
 }
 
 /// What is wrong with the tokens or data of a text (R5RS 7.1.1 and 7.1.2, in this project's profile).
 #[derive(Clone, Copy, Debug, PartialEq, Eq)]
 pub enum SyntaxKind {
+    /// A byte or run of bytes that begins no token.
     BadToken,
+    /// The text ends in a string, or while a list, a vector or a quote is open.
     Unclosed,
+    /// A `)` where no list or vector is open, or directly after `'`.
     StrayClose,
+    /// A number that is no integer.
     FloatLiteral,
+    /// An integer outside 64 bits.
     WideLiteral,
+    /// `#\` that begins no character, or a byte 0 in a string.
     BadCharacter,
+    /// A backslash in a string that begins no escape.
     BadEscape,
+    /// A dot outside a list, without a datum before it, or without just one behind it.
     BadDot,
+    /// Lists, vectors and quotes nested more than 200 deep.
     TooDeep,
 }
 
 /// What is wrong with structures and interfaces.
 #[derive(Clone, Copy, Debug, PartialEq, Eq)]
 pub enum ModuleKind {
+    /// An opened structure is not defined.
     UnknownStructure,
+    /// An interface is not defined, or its definitions lead back to it.
     UnknownInterface,
+    /// Two structures or two interfaces of one name, or a structure of a built-in one's name.
     DefinedTwice,
+    /// Structures that open each other.
     Circle,
+    /// No library has the file.
     MissingFile,
+    /// There is no structure, or the entry does not export the value `main`.
     NoMain,
+    /// Two opened names give one name different bindings.
     TwoOpened,
+    /// A form or clause of another shape.
     BadClause,
 }
 
 /// What is wrong with a form.
 #[derive(Clone, Copy, Debug, PartialEq, Eq)]
 pub enum FormKind {
+    /// A form of another shape, or one that may not stand here.
     BadForm,
+    /// An identifier without a binding.
     Unbound,
+    /// A primitive or a `lambda` at the head of a call with another number of operands.
     Arity,
+    /// A `letrec` or an internal definition whose value is no `lambda`.
     LetrecValue,
+    /// A `set!` of a local variable.
     LocalSet,
+    /// A use of a macro that matches none of its rules.
     NoRule,
+    /// A `syntax-rules` form of another shape, or with variables or ellipses out of place.
     BadRules,
+    /// Two variables under one ellipsis that matched different numbers of forms.
     Uneven,
+    /// A second definition of one identifier.
     NameTwice,
+    /// An exported name without a definition of its sort.
     ExportUndefined,
+    /// A kernel, a quoted datum or a transcribed form deeper than its limit.
     TooDeep,
 }
 
 /// What may not be reached from `main`.
 #[derive(Clone, Copy, Debug, PartialEq, Eq)]
 pub enum SurviveKind {
+    /// A primitive that is for compile time alone.
     CompileOnly,
+    /// A `set!` of the name of a procedure definition.
     ProcedureAssigned,
+    /// `main` itself, which is no procedure without parameters.
     MainMissing,
 }
 
 /// Where a procedure may not stand as a value.
 #[derive(Clone, Copy, Debug, PartialEq, Eq)]
 pub enum Position {
+    /// A branch of `if`.
     Branch,
+    /// An operand of a primitive, or a primitive itself.
     Primitive,
+    /// The value of a `set!`.
     Assigned,
+    /// A part of a sequence other than its last.
     Ignored,
 }
 
 /// Why a run of the compiler is refused.
 #[derive(Clone, Copy, Debug, PartialEq, Eq)]
 pub enum Fault {
-    /// The words break the rules, at the word of this index.
+    /// The words break the rules, at the word of this index. It is the number of words where one is missing.
     Usage(u64),
     /// The input failed.
     Source,
@@ -87,28 +124,37 @@ pub enum Fault {
     Sink,
     /// The library of this index failed.
     Library(u64),
-    /// The text of this file is too long.
+    /// The text of this file is too long. 0 is the input, and k is the k-th fetched file, counted from 1.
     TooLong(u32),
+    /// The tokens or data of a text are wrong, at this place.
     Syntax(SyntaxKind, Place),
+    /// The structures and interfaces are wrong, at this place.
     Module(ModuleKind, Place),
+    /// A form is wrong, at this place.
     Form(FormKind, Place),
-    /// Macros transcribed more than this limit.
+    /// Macros were transcribed more often than this limit, or transcribed forms have more nodes than this limit together.
     ExpansionSpent(u64),
     /// The kernel has more than this number of nodes.
     CoreSpent(u64),
+    /// A top-level form at compile time meets a value of the wrong kind, at this place.
     StaticWrong(Place),
+    /// A top-level form at compile time meets an operation without a meaning, at this place.
     StaticUndefined(Op, Place),
+    /// A top-level form at compile time meets what is for run time alone, at this place.
     StaticRunOnly(Place),
-    /// The top-level forms were still running after this number of calls.
+    /// The top-level forms were still running after this number of calls at compile time.
     BudgetSpent(u64),
     /// The top-level forms made more than this number of cells.
     CellsSpent(u64),
+    /// `main` reaches what it may not, at this place.
     Survives(SurviveKind, Place),
-    /// The definition of this structure and name has no type.
+    /// The definition of this structure and name has no type. The place is its form's.
     TypeFault(Name, Name, Place),
+    /// A procedure stands as a value where it may not. The place is that of the form around it.
     Unresolved(Position, Place),
-    /// More than this number of specialised procedures.
+    /// There are more than this number of specialised procedures.
     KeysSpent(u64),
+    /// The call at this place would be nested in too many substitutions.
     InlineSpent(Place),
     /// A specialised procedure would have this number of parameters.
     TooWide(u64, Place),
@@ -118,10 +164,12 @@ pub enum Fault {
     NotBuilt(Place),
 }
 
-/// A fault, or want of memory.
+/// A fault, or want of memory: all that a call of the compiler can refuse with.
 #[derive(Clone, Copy, Debug, PartialEq, Eq)]
 pub enum Refusal {
+    /// The fault of what was given.
     Fault(Fault),
+    /// Memory ran out.
     NoMemory,
 }
 

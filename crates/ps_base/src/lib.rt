@@ -26,3 +26,6 @@ pub use runs::{
 pub use sink::{Sink, SinkFault, Taken, write_all};
 pub use text::{Style, Written, put, put_all, put_each, put_number};
 pub use world::{Event, Events, Op, World};
+
+#[cfg(test)]
+mod tests;

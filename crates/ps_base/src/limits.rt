@@ -14,7 +14,7 @@ pub struct Limits {
     pub transcriptions: u64,
     /// Nodes of all transcribed forms together.
     pub transcribed: u64,
-    /// Nodes of the kernel.
+    /// Nodes of the kernel, which is what the program is after expansion.
     pub nodes: u64,
     /// Depth of the kernel, of a quoted datum, and of a transcribed form.
     pub depth: u64,
@@ -24,7 +24,7 @@ pub struct Limits {
     pub cells: u64,
     /// Specialised procedures.
     pub keys: u64,
-    /// Substitutions nested at one place.
+    /// Substitutions of a procedure's body for its call that are nested at one place.
     pub nested: u64,
     /// Parameters of one specialised procedure.
     pub leaves: u64,

@@ -55,7 +55,7 @@ impl Names {
         self.texts.len() == 0
     }
 
-    /// The text of a number.
+    /// The text of a number that `add` has given.
     pub fn text(&self, name: Name) -> &[u8]
         requires { name.0 < length self.now }
         ensures { slice_get self.now name.0 ≡ Some result.now }
@@ -66,7 +66,12 @@ impl Names {
         }
     }
 
-    /// The number of a text, which is added if it is not there. A text that is there keeps its number.
+    /// The number of a text. A text that is there keeps its number, and a new one is added and has the next number. The
+    /// table must have room for one more, also where the text is there.
+    ///
+    /// # Errors
+    ///
+    /// `NoMemory` where memory ran out. The table is then as it was.
     pub fn add(&mut self, text: &[u8]) -> Result<Name, NoMemory>
         requires { length self.old < 4294967295 }
         ensures ok { IfOk result (λ name. Adds self.old self.new text.now name.0) }

@@ -12,7 +12,7 @@ pub enum Taken {
     Failed,
 }
 
-/// A sink failed.
+/// A sink failed, and its count of faults rose or stands at the last number of 64 bits.
 #[derive(Clone, Copy, Debug, PartialEq, Eq)]
 pub struct SinkFault;
 
@@ -36,7 +36,12 @@ pub trait Sink {
         ensures { Takes (shows self.old) (shows self.new) piece.now result };
 }
 
-/// Appends all the bytes. It fails only where the sink's count of faults rose; then a front of the bytes was appended.
+/// Appends all the bytes.
+///
+/// # Errors
+///
+/// `SinkFault` where the sink failed. A front of the bytes was appended, and the sink's count of faults rose or stands at
+/// the last number of 64 bits.
 pub fn write_all<O: Sink>(out: &mut O, bytes: &[u8]) -> Result<(), SinkFault>
     ensures { Writes (O.shows out.old) (O.shows out.new) bytes.now result }
 {

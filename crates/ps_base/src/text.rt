@@ -1,4 +1,5 @@
-//! Pieces of a text, written one after another until the first fault. Nothing here takes memory.
+//! Pieces of a text, written one after another until the first fault. Behind a fault nothing is written, and the fault is
+//! the answer to the end. Nothing here takes memory.
 
 ghost use Rattle.std.specs.Prelude.{ℕ, ◌+◌, ◌<◌, ◌^◌, List, length, decimal};
 ghost use Rattle.ps_base.specs.Sinks.{Adds};
@@ -39,7 +40,8 @@ pub trait Style<T> {
         ensures { Adds (O.shows out.old) so_far (O.shows out.new) result (text place item.now) };
 }
 
-/// Appends each member; the first has the place `first`.
+/// Appends each member in order, unless a fault came before; the first has the place `first`. The place behind the last
+/// must have 64 bits.
 pub fn put_each<S: Style<T>, T, O: Sink>(
     out: &mut O,
     so_far: Written,
@@ -56,7 +58,7 @@ pub fn put_each<S: Style<T>, T, O: Sink>(
     so_far
 }
 
-/// Appends each member of a list; the first has the place 0.
+/// Appends each member of a list in order, unless a fault came before; the first has the place 0.
 pub fn put_all<S: Style<T>, T, O: Sink>(out: &mut O, so_far: Written, items: &Items<T>) -> Written
     ensures { Adds (O.shows out.old) so_far (O.shows out.new) result (each S.text 0 items.now) }
 {

@@ -11,15 +11,23 @@ use std::marker::Model;
 pub enum Op {
     /// The result has no 64 bits.
     Overflow,
+    /// The divisor is 0, or the quotient has no 64 bits.
     Division,
+    /// A shift by a count outside 0 to 63.
     Shift,
+    /// A character's code outside 0 to 255.
     Char,
+    /// A byte outside 0 to 255.
     Byte,
+    /// A size that no block may have.
     Size,
+    /// A pointer to no block, or a place outside a block.
     Bounds,
     /// What is read was never set.
     Unset,
+    /// A block that was freed.
     Freed,
+    /// Two pointers into different blocks, which have no distance and no order.
     Blocks,
 }
 
@@ -81,7 +89,7 @@ impl World {
         }
     }
 
-    /// Whether the next allocation is granted.
+    /// Takes the next grant: whether the next allocation is granted. Past the end of the grants it is refused.
     pub fn granted(&mut self) -> bool
         ensures answer { result ≡ next_grant self.old.grants }
         ensures rest { self.new ≡ record self.old { grants = rest_of self.old.grants } }

@@ -1,7 +1,5 @@
-use Rattle.std.proofs.Common.{refl, ap, subst, sym, ◌∙◌, Ok, Err, length, List, arith, drop, ◌≡◌, ℕ, []}
+use Rattle.std.proofs.Common.{refl, sym, Ok, Err}
 use Rattle.std.proofs.lemmas.Bool.{eqb-true}
-use Rattle.ps_base.specs.SinkStates.{SinkState}
-use Rattle.ps_base.specs.Sinks.{Writes, Appended}
 use Rattle.ps_base.proofs.Writing.{writes_rest, appended_empty, cut_nothing}
 use Rattle.ps_base.proofs.sink.write_all.Goals as goal
 

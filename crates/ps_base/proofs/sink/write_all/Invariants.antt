@@ -1,4 +1,4 @@
-use Rattle.std.proofs.Common.{length, List, Result}
+use Rattle.std.proofs.Common.{length, Result}
 use Rattle.ps_base.specs.SinkStates.{SinkState}
 use Rattle.ps_base.specs.declared.sink.SinkFault.{SinkFault}
 use Rattle.ps_base.specs.Sinks.{Writes}

@@ -1,4 +1,4 @@
-use Rattle.std.proofs.Common.{◌+◌, drop, arith, sym, subst, length-drop}
+use Rattle.std.proofs.Common.{◌+◌, drop, arith, length-drop}
 use Rattle.ps_base.proofs.Writing.{adds_then, adds_nothing, each_at, each_none}
 use Rattle.ps_base.proofs.text.put_each.Goals as goal
 

@@ -1,5 +1,5 @@
-use Rattle.std.proofs.Common.{◌≡◌, ◌+◌, drop, List, Bool, ap, sym}
-use Rattle.ps_base.specs.Worlds.{Surroundings, rest_of}
+use Rattle.std.proofs.Common.{drop, List, Bool, ap, sym}
+use Rattle.ps_base.specs.Worlds.{Surroundings}
 use Rattle.ps_base.proofs.Remainders.{rest-drop}
 use Rattle.ps_base.proofs.world.World.granted.Goals as goal
 

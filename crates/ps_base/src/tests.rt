@@ -1,0 +1,201 @@
+//! Names in a table, bytes of a world, the numbers of faults, the standard limits, and pieces of a text into a sink that
+//! fails in mid-stream.
+
+ghost use Rattle.std.specs.Prelude.{◌<◌, ◌^◌, Some, length, decimal, refl};
+ghost use Rattle.ps_base.specs.Numbers.{more};
+ghost use Rattle.ps_base.specs.Texts.{◌&◌};
+
+use crate::*;
+use std::alloc::Global;
+use std::test::Fail;
+
+#[test]
+fn numbers_texts_in_order(rt: HostRuntime) -> Result<(), Fail> {
+    let mut names = Names::new(rt.alloc());
+    assert!(rt; names.is_empty());
+    let table = [
+        (b"car".as_slice(), 0, 1),
+        (b"cdr", 1, 2),
+        (b"car", 0, 2),
+        (b"", 2, 3),
+        (b"Car", 3, 4),
+        (b"cdr", 1, 4),
+        (b"", 2, 4),
+    ];
+    for (text, number, len) in table {
+        assert!(rt; names.len() < u32::MAX);
+        let name = names.add(text)?;
+        assert_eq!(rt; name, Name(number));
+        assert_eq!(rt; names.len(), len);
+        assert!(rt; name.0 < names.len());
+        assert_eq!(rt; names.text(name), text);
+    }
+    assert!(rt; !names.is_empty());
+    Ok(())
+}
+
+#[test]
+fn reads_and_grants_to_the_end(rt: HostRuntime) -> Result<(), Fail> {
+    let alloc = rt.alloc();
+    let input = Items::from_slice(alloc, &[0, 104, 255])?;
+    let grants = Items::from_slice(alloc, &[true, false, true])?;
+    let mut world = World::new(input, grants);
+    for (byte, grant) in [
+        (0, true),
+        (104, false),
+        (255, true),
+        (-1, false),
+        (-1, false),
+    ] {
+        assert_eq!(rt; world.read(), byte);
+        assert_eq!(rt; world.granted(), grant);
+    }
+    Ok(())
+}
+
+#[test]
+fn each_fault_has_its_number(rt: HostRuntime) {
+    let place = Place {
+        file: 1,
+        line: 2,
+        column: 3,
+    };
+    let table = [
+        (Fault::Usage(9), 1),
+        (Fault::Source, 2),
+        (Fault::Sink, 3),
+        (Fault::Library(9), 4),
+        (Fault::TooLong(9), 5),
+        (Fault::Syntax(SyntaxKind::BadToken, place), 6),
+        (Fault::Module(ModuleKind::NoMain, place), 7),
+        (Fault::Form(FormKind::Arity, place), 8),
+        (Fault::ExpansionSpent(99), 9),
+        (Fault::CoreSpent(99), 9),
+        (Fault::StaticWrong(place), 10),
+        (Fault::StaticUndefined(Op::Overflow, place), 10),
+        (Fault::StaticRunOnly(place), 10),
+        (Fault::BudgetSpent(99), 11),
+        (Fault::CellsSpent(99), 11),
+        (Fault::Survives(SurviveKind::MainMissing, place), 12),
+        (Fault::TypeFault(Name(1), Name(2), place), 13),
+        (Fault::Unresolved(Position::Branch, place), 14),
+        (Fault::KeysSpent(99), 15),
+        (Fault::InlineSpent(place), 15),
+        (Fault::TooWide(128, place), 15),
+        (Fault::CodeSpent(99), 16),
+        (Fault::NotBuilt(place), 17),
+    ];
+    for (fault, number) in table {
+        assert_eq!(rt; fault.number(), number, "{fault:?}");
+    }
+    assert_eq!(rt; Refusal::from(NoMemory), Refusal::NoMemory);
+}
+
+#[test]
+fn standard_limits(rt: HostRuntime) {
+    let limits = Limits::standard();
+    let table = [
+        (limits.text_bytes, 4 * 1024 * 1024),
+        (limits.all_bytes, 16 * 1024 * 1024),
+        (limits.transcriptions, 100_000),
+        (limits.transcribed, 10_000_000),
+        (limits.nodes, 1_000_000),
+        (limits.depth, 1_000),
+        (limits.budget, 1_000_000),
+        (limits.cells, 16_000_000),
+        (limits.keys, 4_096),
+        (limits.nested, 200),
+        (limits.leaves, 127),
+        (limits.code, 2_000_000),
+    ];
+    for (limit, want) in table {
+        assert_eq!(rt; limit, want);
+    }
+}
+
+// A sink of at most two bytes a call. The call of this number fails, and then it goes on.
+#[derive(Drop)]
+struct Memory {
+    bytes: Vec<u8>,
+    calls: usize,
+    failing: usize,
+    faults: u64,
+}
+
+impl Sink for Memory {
+    ghost shows = { λ s. record { bytes = Some s.bytes.items; number = Some (more 0 (length s.bytes.items)); faults = s.faults } };
+
+    ghost tells_number = { λ _. refl };
+
+    fn write(&mut self, piece: &[u8]) -> Taken {
+        let call = self.calls;
+        self.calls = call.saturating_add(1);
+        let k = piece.len().min(2);
+        let (front, _) = piece.split_at(k);
+        if call == self.failing || self.bytes.extend_from_slice(front).is_err() {
+            self.faults = self.faults.saturating_add(1);
+            return Taken::Failed;
+        }
+        Taken::Bytes(k)
+    }
+}
+
+fn empty_sink(alloc: Global, failing: usize) -> Memory {
+    Memory {
+        bytes: Vec::new(alloc),
+        calls: 0,
+        failing,
+        faults: 0,
+    }
+}
+
+#[test]
+fn writes_all_or_a_front(rt: HostRuntime) {
+    let mut whole = empty_sink(rt.alloc(), 9);
+    assert_eq!(rt; write_all(&mut whole, b""), Ok(()));
+    assert_eq!(rt; whole.calls, 0);
+    assert_eq!(rt; write_all(&mut whole, b"abcde"), Ok(()));
+    assert_eq!(rt; whole.bytes.as_slice(), b"abcde".as_slice());
+    let mut cut = empty_sink(rt.alloc(), 1);
+    assert_eq!(rt; write_all(&mut cut, b"abcde"), Err(SinkFault));
+    assert_eq!(rt; cut.bytes.as_slice(), b"ab".as_slice());
+    assert_eq!(rt; write_all(&mut cut, b"cde"), Ok(()));
+    assert_eq!(rt; cut.bytes.as_slice(), b"abcde".as_slice());
+}
+
+// Members by their digits, each with its place before it.
+struct Numbered;
+
+impl Style<u64> for Numbered {
+    ghost text = { λ k n. decimal k & decimal n };
+
+    #[tactic(auto, using(crate::proofs::Writing::adds_then))]
+    fn put_at<O: Sink>(out: &mut O, so_far: Written, place: u64, item: &u64) -> Written {
+        let so_far = put_number(out, so_far, place);
+        put_number(out, so_far, *item)
+    }
+}
+
+#[test]
+fn puts_pieces_until_the_first_fault(rt: HostRuntime) -> Result<(), Fail> {
+    let alloc = rt.alloc();
+    // Each piece has at most two bytes, so it is one call of the sink.
+    let numbers = Items::from_slice(alloc, &[70, 80, 90])?;
+    let table = [
+        (99, Ok(()), b"n=0:070180290:970".as_slice()),
+        (1, Err(SinkFault), b"n="),
+        (5, Err(SinkFault), b"n=0:070"),
+    ];
+    for (failing, want, text) in table {
+        let mut out = empty_sink(alloc, failing);
+        let so_far = put(&mut out, Ok(()), b"n=");
+        let so_far = put_number(&mut out, so_far, 0);
+        let so_far = put(&mut out, so_far, b":");
+        let so_far = put_all::<Numbered, u64, Memory>(&mut out, so_far, &numbers);
+        let so_far = put(&mut out, so_far, b":");
+        let so_far = put_each::<Numbered, u64, Memory>(&mut out, so_far, 9, &[70]);
+        assert_eq!(rt; so_far, want, "call {failing} fails");
+        assert_eq!(rt; out.bytes.as_slice(), text, "call {failing} fails");
+    }
+    Ok(())
+}
