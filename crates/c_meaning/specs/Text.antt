@@ -3,6 +3,8 @@ use Rattle.std.specs.Prelude.{◌≡◌, ℕ, zero, suc, ℤ, pos, negsuc, List,
 use Rattle.ps_base.specs.Texts.{◌&◌}
 use Rattle.c_meaning.specs.declared.unit.Atom.{Atom}
 use Rattle.c_meaning.specs.declared.unit.Atom.TheVariants as atoms
+use Rattle.c_meaning.specs.declared.unit.BinaryOperator.{BinaryOperator}
+use Rattle.c_meaning.specs.declared.unit.BinaryOperator.TheVariants as operators
 use Rattle.c_meaning.specs.declared.unit.Statement.{Statement}
 use Rattle.c_meaning.specs.declared.unit.Statement.TheVariants as statements
 use Rattle.c_meaning.specs.declared.unit.CUnit.{CUnit}
@@ -26,10 +28,20 @@ unfoldable pub atom_text : Atom → List ℕ
 atom_text (atoms.Variable k) = codes "v" & decimal k
 atom_text (atoms.Integer i) = integer_text i
 
+unfoldable pub operator_text : BinaryOperator → List ℕ
+operator_text operators.Add = codes "+"
+operator_text operators.Subtract = codes "-"
+operator_text operators.Multiply = codes "*"
+operator_text operators.Less = codes "<"
+
 -- a statement's line, without its end
 unfoldable pub statement_text : Statement → List ℕ
 statement_text (statements.Move k a) = codes "  v" & decimal k & codes " = " & atom_text a & codes ";"
-statement_text (statements.Add k a b) = codes "  v" & decimal k & codes " = " & atom_text a & codes " + " & atom_text b & codes ";"
+statement_text (statements.Operation k a o b) = codes "  v" & decimal k & codes " = " & atom_text a & codes " " & operator_text o & codes " " & atom_text b & codes ";"
+statement_text (statements.Write k a) = codes "  v" & decimal k & codes " = ps_write(" & atom_text a & codes ");"
+statement_text (statements.IfGoto a n) = codes "  if (" & atom_text a & codes ") goto L" & decimal n & codes ";"
+statement_text (statements.Goto n) = codes "  goto L" & decimal n & codes ";"
+statement_text (statements.Label n) = codes "L" & decimal n & codes ":;"
 statement_text (statements.Return a) = codes "  return " & atom_text a & codes ";"
 
 -- The lines after the prelude: the function's declaration, the head of its definition, a variable, a statement, the end of the definition, and the C program's own main.

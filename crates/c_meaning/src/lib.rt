@@ -10,7 +10,7 @@ mod unit;
 pub use laws::larger_bound_keeps;
 pub use machine::{CState, StepOut, step};
 pub use prelude::PRELUDE;
-pub use unit::{Atom, CUnit, Statement};
+pub use unit::{Atom, BinaryOperator, CUnit, Statement};
 
 #[cfg(test)]
 mod tests;

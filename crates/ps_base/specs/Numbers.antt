@@ -15,6 +15,11 @@ is_word (negsuc n) = nat_lt n 9223372036854775808
 abbrev pub fit : ℤ → Option ℤ
 fit i = if is_word i then Some i else None
 
+-- the integer, where it is a byte: from 0 to 255
+abbrev pub byte_of : ℤ → Option ℤ
+byte_of (pos n) = if nat_lt n 256 then Some (pos n) else None
+byte_of (negsuc n) = None
+
 -- the last number of 64 bits
 abbrev pub last : ℕ
 last = 18446744073709551615

@@ -1,11 +1,12 @@
 -- What a part of a run does with more calls left.
-use Rattle.std.proofs.Common.{◌≡◌, ℕ, zero, suc, ◌+◌, List, Option, Some, None, refl, sym, ap, ◌∙◌, subst, arith}
+use Rattle.std.proofs.Common.{◌≡◌, ℕ, zero, suc, ◌+◌, Bool, true, false, List, [], ◌∷◌, Option, Some, None, refl, sym, ap, ◌∙◌, subst, arith}
 use Rattle.ps_base.specs.declared.world.Event.{Event}
 use Rattle.ps_base.specs.declared.world.Op.{Op}
 use Rattle.ps_base.specs.declared.faults.Place.{Place}
 use Rattle.ps_base.specs.Outcome.{End, Returned, Running, Undefined, Stuck, Wrong, StoppedAtCells, Begins, IsSound}
 use Rattle.ps_base.proofs.Fronts.{begins_self, begins_trans}
-use Rattle.ps_meaning.specs.Run.{State, Step, Goes, Stops, Run, and_then, ◌>>=◌, pure, stop, known, take_one, take_call, at_depth}
+use Rattle.ps_meaning.specs.Run.{State, Step, Goes, Stops, Run, and_then, ◌>>=◌, pure, stop, known, take_one, take_call, at_depth, note}
+use Rattle.ps_meaning.specs.Meaning.{either}
 
 abbrev pub events_of : {A : Type 0} → Step A → List Event
 events_of (Goes a s) = s.events
@@ -49,6 +50,13 @@ known_longer d e (Some a) = pure_longer d a
 
 pub at_depth_longer : (d n : ℕ) → Longer d (at_depth n) (at_depth n)
 at_depth_longer d n = record { extends = λ s. refl; grows = λ s. begins_self s.events }
+
+pub note_longer : (d : ℕ) (e : Event) → Longer d (note e) (note e)
+note_longer d e = record { extends = λ s. refl; grows = λ s. record { rest = e ∷ []; is = refl } }
+
+pub either_longer : {A : Type 0} (d : ℕ) (b : Bool) {p q p' q' : Run A} → Longer d p p' → Longer d q q' → Longer d (either b p q) (either b p' q')
+either_longer d true h i = h
+either_longer d false h i = i
 
 take_one_grows : (n : ℕ) (s : State) → Begins s.events (events_of (take_one n s))
 take_one_grows zero s = begins_self s.events
@@ -99,6 +107,13 @@ known_sound e (Some a) h = record { ends = λ s. tt }
 
 pub at_depth_sound : (n : ℕ) → Sound (at_depth n)
 at_depth_sound n = record { ends = λ s. tt }
+
+pub note_sound : (e : Event) → Sound (note e)
+note_sound e = record { ends = λ s. tt }
+
+pub either_sound : {A : Type 0} (b : Bool) {p q : Run A} → Sound p → Sound q → Sound (either b p q)
+either_sound true h i = h
+either_sound false h i = i
 
 take_one_sound : (n : ℕ) (s : State) → SoundStep (take_one n s)
 take_one_sound zero s = tt

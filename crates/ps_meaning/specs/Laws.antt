@@ -2,15 +2,15 @@
 use Rattle.std.specs.Prelude.{◌≡◌, ℕ, List}
 use Rattle.ps_base.specs.Agree.{KeepsWhatItHas, IsSoundRun}
 use Rattle.ps_base.specs.Worlds.{Surroundings}
-use Rattle.ps_meaning.specs.declared.expr.Expr.{Expr}
+use Rattle.ps_meaning.specs.declared.expr.Program.{Program}
 use Rattle.ps_meaning.specs.Text.{IsProgram}
 use Rattle.ps_meaning.specs.Meaning.{Source}
 
 abbrev pub LargerBoundKeeps : Type 0
-LargerBoundKeeps = (e : Expr) (w : Surroundings) → KeepsWhatItHas (Source e w)
+LargerBoundKeeps = (p : Program) (w : Surroundings) → KeepsWhatItHas (Source p w)
 
 abbrev pub SourceIsSound : Type 0
-SourceIsSound = (e : Expr) (w : Surroundings) → IsSoundRun (Source e w)
+SourceIsSound = (p : Program) (w : Surroundings) → IsSoundRun (Source p w)
 
 abbrev pub TextHasOneProgram : Type 0
-TextHasOneProgram = (text : List ℕ) (d e : Expr) → IsProgram text d → IsProgram text e → d ≡ e
+TextHasOneProgram = (text : List ℕ) (p q : Program) → IsProgram text p → IsProgram text q → p ≡ q

@@ -1,5 +1,5 @@
 -- Parts of a run: what evaluating does to the state of a run, as a state monad with an end (this project's own).
-use Rattle.std.specs.Prelude.{ℕ, zero, suc, max, List, Option, Some, None}
+use Rattle.std.specs.Prelude.{ℕ, zero, suc, max, List, [], ◌∷◌, ◌++◌, Option, Some, None}
 use Rattle.ps_base.specs.declared.world.Event.{Event}
 use Rattle.ps_base.specs.Outcome.{End, Running}
 
@@ -54,3 +54,7 @@ take_call = λ s. take_one s.calls s
 
 abbrev pub at_depth : ℕ → Run (Unit {0})
 at_depth d = λ s. Goes tt (record s { deepest = max s.deepest d })
+
+-- an operation that is seen from outside
+abbrev pub note : Event → Run (Unit {0})
+note e = λ s. Goes tt (record s { events = s.events ++ e ∷ [] })

@@ -5,7 +5,10 @@ use Rattle.std.specs.Char.{to_ascii_lowercase}
 use Rattle.std.specs.Str.Parse.{IsNumeral, without_leading_sign, signed_digits_value}
 use Rattle.ps_base.specs.Numbers.{IsWord}
 use Rattle.ps_meaning.specs.declared.expr.Expr.{Expr}
-use Rattle.ps_meaning.specs.declared.expr.Expr.TheVariants.{Integer, Add}
+use Rattle.ps_meaning.specs.declared.expr.Expr.TheVariants.{Integer, Operation, If}
+use Rattle.ps_meaning.specs.declared.expr.Operator.{Operator}
+use Rattle.ps_meaning.specs.declared.expr.Operator.TheVariants as operators
+use Rattle.ps_meaning.specs.declared.expr.Program.{Program}
 
 -- ---- tokens
 
@@ -81,18 +84,35 @@ IsInteger run i = IsNumeral 10 (without_leading_sign run) × (signed_digits_valu
 abbrev pub levels : ℕ
 levels = 200
 
+-- the sign of an operator
+abbrev pub sign_of : Operator → List ℕ
+sign_of operators.Add = codes "+"
+sign_of operators.Subtract = codes "-"
+sign_of operators.Multiply = codes "*"
+
 -- IsExpr n ts e rest: where n brackets are open, the tokens ts begin with the expression e, and rest follows it
 pub data IsExpr : ℕ → List Token → Expr → List Token → Type 0 where
   integer : (n : ℕ) (run : List ℕ) (i : ℤ) (rest : List Token) → IsInteger run i → IsExpr n (Word run ∷ rest) (Integer i) rest
-  sum : (n : ℕ) (run : List ℕ) (ts us rest : List Token) (a b : Expr) → n < levels → Spells (codes "+") run
-      → IsExpr (suc n) ts a us → IsExpr (suc n) us b (Close ∷ rest) → IsExpr n (Open ∷ Word run ∷ ts) (Add a b) rest
+  operation : (n : ℕ) (run : List ℕ) (o : Operator) (ts us rest : List Token) (a b : Expr) → n < levels → Spells (sign_of o) run
+      → IsExpr (suc n) ts a us → IsExpr (suc n) us b (Close ∷ rest) → IsExpr n (Open ∷ Word run ∷ ts) (Operation o a b) rest
+  conditional : (n : ℕ) (word sign : List ℕ) (ts us vs ws rest : List Token) (a b c d : Expr) → suc n < levels → Spells (codes "if") word → Spells (codes "<") sign
+      → IsExpr (suc (suc n)) ts a us → IsExpr (suc (suc n)) us b (Close ∷ vs) → IsExpr (suc n) vs c ws → IsExpr (suc n) ws d (Close ∷ rest)
+      → IsExpr n (Open ∷ Word word ∷ Open ∷ Word sign ∷ ts) (If a b c d) rest
 
--- the text is (define (main) E)
-pub record IsProgram (text : List ℕ) (e : Expr) : Type 0 where
+-- AreWrites n ts es rest: where n brackets are open, the tokens ts begin with a (write-byte E) for each of the expressions es, and rest follows them
+pub data AreWrites : ℕ → List Token → List Expr → List Token → Type 0 where
+  none : (n : ℕ) (rest : List Token) → AreWrites n rest [] rest
+  more : (n : ℕ) (run : List ℕ) (ts us rest : List Token) (e : Expr) (es : List Expr) → n < levels → Spells (codes "write-byte") run
+      → IsExpr (suc n) ts e (Close ∷ us) → AreWrites n us es rest → AreWrites n (Open ∷ Word run ∷ ts) (e ∷ es) rest
+
+-- the text is (define (main) (write-byte W) ... E)
+pub record IsProgram (text : List ℕ) (p : Program) : Type 0 where
   pub define : List ℕ
   pub main : List ℕ
   pub body : List Token
+  pub last : List Token
   pub form : tokens text ≡ Open ∷ Word define ∷ Open ∷ Word main ∷ Close ∷ body
   pub define_is : Spells (codes "define") define
   pub main_is : Spells (codes "main") main
-  pub body_is : IsExpr 1 body e (Close ∷ [])
+  pub writes_are : AreWrites 1 body p.writes last
+  pub value_is : IsExpr 1 last p.value (Close ∷ [])

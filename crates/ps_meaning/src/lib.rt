@@ -7,5 +7,5 @@
 mod expr;
 mod laws;
 
-pub use expr::Expr;
+pub use expr::{Expr, Operator, Program};
 pub use laws::{larger_bound_keeps, source_is_sound, text_has_one_program};

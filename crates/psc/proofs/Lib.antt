@@ -1,6 +1,11 @@
 mod Reading
+mod Writes
 mod Spelling
 mod Integers
 mod UnitLines
+mod Patches
+mod Building
+mod Labels
 mod Formed
 mod Correct
+mod Compiled

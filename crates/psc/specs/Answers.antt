@@ -7,7 +7,7 @@ use Rattle.ps_base.specs.declared.faults.Fault.TheVariants as faults
 use Rattle.ps_base.specs.declared.faults.Place.{Place}
 use Rattle.ps_edge.specs.SourceStates.{SourceState}
 use Rattle.ps_edge.specs.Sources.{Taking, IsSpent}
-use Rattle.ps_meaning.specs.declared.expr.Expr.{Expr}
+use Rattle.ps_meaning.specs.declared.expr.Program.{Program}
 use Rattle.ps_meaning.specs.Text.{IsProgram}
 use Rattle.psc.specs.Headline.{Compiles}
 use Rattle.psc.specs.Words.{words_fault}
@@ -68,7 +68,7 @@ pub record IsNotBuilt (place : Place) (i i' : SourceState) (o o' : SinkState) : 
   pub is_start : place ≡ text_start
   pub text : List ℕ
   pub read : ReadsAll i i' text
-  pub none : (program : Expr) → IsProgram text program → ⊥
+  pub none : (program : Program) → IsProgram text program → ⊥
   pub unchanged : o' ≡ o
 
 -- memory ran out before the output was touched

@@ -1,11 +1,11 @@
 //! Units as text.
 
-ghost use Rattle.std.specs.Prelude.{ℕ, List, [], ◌∷◌, codes};
+ghost use Rattle.std.specs.Prelude.{◌≡◌, ℕ, List, [], ◌∷◌, codes};
 ghost use Rattle.ps_base.specs.Sinks.{Adds, Writes};
 ghost use Rattle.ps_base.specs.Texts.{◌&◌};
-ghost use Rattle.c_meaning.specs.Text.{natural_text, negative_text, integer_text, atom_text, statement_text, Declares, Does, line_text, lines_text, variable_lines, text_of};
+ghost use Rattle.c_meaning.specs.Text.{natural_text, negative_text, integer_text, atom_text, operator_text, statement_text, Declares, Does, line_text, lines_text, variable_lines, text_of};
 
-use c_meaning::{Atom, CUnit, PRELUDE, Statement};
+use c_meaning::{Atom, BinaryOperator, CUnit, PRELUDE, Statement};
 use ps_base::{Sink, SinkFault, Style, Written, put, put_all, put_number};
 
 fn put_natural<O: Sink>(out: &mut O, so_far: Written, number: u64) -> Written
@@ -50,6 +50,24 @@ fn put_atom<O: Sink>(out: &mut O, so_far: Written, atom: Atom) -> Written
     }
 }
 
+#[tactic(auto, unfolding(c_meaning::specs::Text::operator_text))]
+fn operator_text_of(operator: BinaryOperator) -> &'static [u8]
+    ensures { result.now ≡ operator_text operator }
+{
+    match operator {
+        BinaryOperator::Add => b"+",
+        BinaryOperator::Subtract => b"-",
+        BinaryOperator::Multiply => b"*",
+        BinaryOperator::Less => b"<",
+    }
+}
+
+fn put_operator<O: Sink>(out: &mut O, so_far: Written, operator: BinaryOperator) -> Written
+    ensures { Adds (O.shows out.old) so_far (O.shows out.new) result (operator_text operator) }
+{
+    put(out, so_far, operator_text_of(operator))
+}
+
 fn put_statement<O: Sink>(out: &mut O, so_far: Written, statement: &Statement) -> Written
     ensures { Adds (O.shows out.old) so_far (O.shows out.new) result (statement_text statement.now) }
 {
@@ -61,14 +79,40 @@ fn put_statement<O: Sink>(out: &mut O, so_far: Written, statement: &Statement) -
             let so_far = put_atom(out, so_far, *atom);
             put(out, so_far, b";")
         }
-        Statement::Add(target, left, right) => {
+        Statement::Operation(target, left, operator, right) => {
             let so_far = put(out, so_far, b"  v");
             let so_far = put_number(out, so_far, *target as u64);
             let so_far = put(out, so_far, b" = ");
             let so_far = put_atom(out, so_far, *left);
-            let so_far = put(out, so_far, b" + ");
+            let so_far = put(out, so_far, b" ");
+            let so_far = put_operator(out, so_far, *operator);
+            let so_far = put(out, so_far, b" ");
             let so_far = put_atom(out, so_far, *right);
             put(out, so_far, b";")
+        }
+        Statement::Write(target, atom) => {
+            let so_far = put(out, so_far, b"  v");
+            let so_far = put_number(out, so_far, *target as u64);
+            let so_far = put(out, so_far, b" = ps_write(");
+            let so_far = put_atom(out, so_far, *atom);
+            put(out, so_far, b");")
+        }
+        Statement::IfGoto(atom, label) => {
+            let so_far = put(out, so_far, b"  if (");
+            let so_far = put_atom(out, so_far, *atom);
+            let so_far = put(out, so_far, b") goto L");
+            let so_far = put_number(out, so_far, *label as u64);
+            put(out, so_far, b";")
+        }
+        Statement::Goto(label) => {
+            let so_far = put(out, so_far, b"  goto L");
+            let so_far = put_number(out, so_far, *label as u64);
+            put(out, so_far, b";")
+        }
+        Statement::Label(label) => {
+            let so_far = put(out, so_far, b"L");
+            let so_far = put_number(out, so_far, *label as u64);
+            put(out, so_far, b":;")
         }
         Statement::Return(atom) => {
             let so_far = put(out, so_far, b"  return ");

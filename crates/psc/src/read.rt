@@ -5,11 +5,13 @@
 ghost use Rattle.std.specs.Prelude.{◌≡◌, ℕ, ℤ, List, [], ◌∷◌, false, IfOk, IfNone, IfSome, IsTrue, ◌↔◌};
 ghost use Rattle.std.specs.List.{prefix_len};
 ghost use Rattle.ps_meaning.specs.declared.expr.Expr.{Expr};
-ghost use Rattle.ps_meaning.specs.Text.{Open, Close, Word, is_white, tokens, Token, Spells, IsInteger, IsExpr, IsProgram};
-ghost use Rattle.psc.specs.Reading.{part, front, IsUnread, begins_white};
+ghost use Rattle.ps_meaning.specs.declared.expr.Operator.{Operator};
+ghost use Rattle.ps_meaning.specs.declared.expr.Program.{Program};
+ghost use Rattle.ps_meaning.specs.Text.{Open, Close, Word, is_white, tokens, Token, Spells, IsInteger, sign_of, IsExpr, AreWrites, IsProgram};
+ghost use Rattle.psc.specs.Reading.{part, front, IsUnread, begins_white, ArePair, IsBehindIf, BeginsWrite, AreBefore, IsHead};
 
-use ps_base::Boxed;
-use ps_meaning::Expr;
+use ps_base::{Boxed, Items};
+use ps_meaning::{Expr, Operator, Program};
 use std::alloc::{AllocError, Global};
 
 // How many brackets may be open.
@@ -171,6 +173,23 @@ fn is_end(text: &[u8]) -> bool
     }
 }
 
+// The operator that the run is.
+fn operator(run: &[u8]) -> Option<Operator>
+    ensures some { IfSome result (λ o. Spells (sign_of o) run.now) }
+    ensures none { IfNone result ((o : Operator) → Spells (sign_of o) run.now → ⊥) }
+{
+    if names(run, b"+") {
+        return Some(Operator::Add);
+    }
+    if names(run, b"-") {
+        return Some(Operator::Subtract);
+    }
+    if names(run, b"*") {
+        return Some(Operator::Multiply);
+    }
+    None
+}
+
 // The expression at the front, where this number of brackets is open, and what is left after it.
 #[cycle(read_expr)]
 fn read_expr(alloc: Global, text: &[u8], opened: u8) -> Result<(Expr, &[u8]), Unread>
@@ -183,14 +202,14 @@ fn read_expr(alloc: Global, text: &[u8], opened: u8) -> Result<(Expr, &[u8]), Un
             Some(i) => Ok((Expr::Integer(i), after)),
             None => Err(Unread::NotBuilt),
         },
-        Lexeme::Open => read_sum(alloc, after, opened),
+        Lexeme::Open => read_form(alloc, after, opened),
         Lexeme::End | Lexeme::Close | Lexeme::Mark => Err(Unread::NotBuilt),
     }
 }
 
 // The same, behind the bracket with which the expression begins.
 #[cycle(read_expr)]
-fn read_sum(alloc: Global, text: &[u8], opened: u8) -> Result<(Expr, &[u8]), Unread>
+fn read_form(alloc: Global, text: &[u8], opened: u8) -> Result<(Expr, &[u8]), Unread>
     ensures read { IfOk result (λ x. IsExpr opened (Open ∷ tokens text.now) x.0 (tokens x.1.now)) }
     ensures unread { IsUnread result → (e : Expr) (rest : List Token) → IsExpr opened (Open ∷ tokens text.now) e rest → ⊥ }
 {
@@ -200,51 +219,131 @@ fn read_sum(alloc: Global, text: &[u8], opened: u8) -> Result<(Expr, &[u8]), Unr
     let Some((run, after)) = word(text) else {
         return Err(Unread::NotBuilt);
     };
-    if !names(run, b"+") {
+    if let Some(o) = operator(run) {
+        let (a, b, after) = read_pair(alloc, after, opened + 1)?;
+        return Ok((
+            Expr::Operation(o, Boxed::new(alloc, a)?, Boxed::new(alloc, b)?),
+            after,
+        ));
+    }
+    if !names(run, b"if") {
         return Err(Unread::NotBuilt);
     }
-    let (a, after) = read_expr(alloc, after, opened + 1)?;
-    let (b, after) = read_expr(alloc, after, opened + 1)?;
-    let Some(after) = close(after) else {
-        return Err(Unread::NotBuilt);
-    };
-    Ok((
-        Expr::Add(Boxed::new(alloc, a)?, Boxed::new(alloc, b)?),
-        after,
-    ))
+    read_if(alloc, after, opened)
 }
 
-/// Reads a program, `(define (main) E)`, in time linear in the length of its text.
-///
-/// It is `NotBuilt` where the text is not the text of a program, and `NoMemory` where memory ran out.
-pub fn read_program(alloc: Global, text: &[u8]) -> Result<Expr, Unread>
-    ensures read { IfOk result (λ e. IsProgram text.now e) }
-    ensures unread { IsUnread result → (e : Expr) → IsProgram text.now e → ⊥ }
+// The same, behind the word of a conditional.
+#[cycle(read_expr)]
+fn read_if(alloc: Global, text: &[u8], opened: u8) -> Result<(Expr, &[u8]), Unread>
+    ensures read { IfOk result (λ x. IsBehindIf opened (tokens text.now) x.0 (tokens x.1.now)) }
+    ensures unread { IsUnread result → (e : Expr) (rest : List Token) → IsBehindIf opened (tokens text.now) e rest → ⊥ }
 {
+    if opened >= LEVELS - 1 {
+        return Err(Unread::NotBuilt);
+    }
     let Some(after) = open(text) else {
         return Err(Unread::NotBuilt);
     };
-    let Some((define, after)) = word(after) else {
+    let Some((run, after)) = word(after) else {
         return Err(Unread::NotBuilt);
     };
-    let Some(after) = open(after) else {
-        return Err(Unread::NotBuilt);
-    };
-    let Some((main, after)) = word(after) else {
-        return Err(Unread::NotBuilt);
-    };
-    let Some(after) = close(after) else {
-        return Err(Unread::NotBuilt);
-    };
-    if !names(define, b"define") || !names(main, b"main") {
+    if !names(run, b"<") {
         return Err(Unread::NotBuilt);
     }
-    let (e, after) = read_expr(alloc, after, 1)?;
+    let (a, b, after) = read_pair(alloc, after, opened + 2)?;
+    let (c, d, after) = read_pair(alloc, after, opened + 1)?;
+    let a = Boxed::new(alloc, a)?;
+    let b = Boxed::new(alloc, b)?;
+    let c = Boxed::new(alloc, c)?;
+    let d = Boxed::new(alloc, d)?;
+    Ok((Expr::If(a, b, c, d), after))
+}
+
+// The two expressions at the front, where this number of brackets is open, and what is left after the bracket that closes
+// behind them.
+#[cycle(read_expr)]
+fn read_pair(alloc: Global, text: &[u8], opened: u8) -> Result<(Expr, Expr, &[u8]), Unread>
+    ensures read { IfOk result (λ x. ArePair opened (tokens text.now) x.0 x.1 (tokens x.2.now)) }
+    ensures unread { IsUnread result → (a b : Expr) (rest : List Token) → ArePair opened (tokens text.now) a b rest → ⊥ }
+{
+    let (a, after) = read_expr(alloc, text, opened)?;
+    let (b, after) = read_last(alloc, after, opened)?;
+    Ok((a, b, after))
+}
+
+// The expression at the front, where this number of brackets is open, and what is left after the bracket that closes
+// behind it.
+#[cycle(read_expr)]
+fn read_last(alloc: Global, text: &[u8], opened: u8) -> Result<(Expr, &[u8]), Unread>
+    ensures read { IfOk result (λ x. IsExpr opened (tokens text.now) x.0 (Close ∷ tokens x.1.now)) }
+    ensures unread { IsUnread result → (e : Expr) (rest : List Token) → IsExpr opened (tokens text.now) e (Close ∷ rest) → ⊥ }
+{
+    let (e, after) = read_expr(alloc, text, opened)?;
     let Some(after) = close(after) else {
         return Err(Unread::NotBuilt);
     };
+    Ok((e, after))
+}
+
+// What follows `(write-byte` at the front.
+fn write_byte(text: &[u8]) -> Option<&[u8]>
+    ensures some { IfSome result (λ after. BeginsWrite (tokens text.now) (tokens after.now)) }
+    ensures none { IfNone result ((after : List Token) → BeginsWrite (tokens text.now) after → ⊥) }
+{
+    let after = open(text)?;
+    let (run, after) = word(after)?;
+    if !names(run, b"write-byte") {
+        return None;
+    }
+    Some(after)
+}
+
+// The writes at the front of the body, and what is left after them: no body of a program has others.
+fn read_writes(alloc: Global, text: &[u8]) -> Result<(Items<Expr>, &[u8]), Unread>
+    ensures read { IfOk result (λ x. AreWrites 1 (tokens text.now) x.0 (tokens x.1.now)) }
+    ensures all { IfOk result (λ x. (es : List Expr) (e : Expr) (last rest : List Token) → AreBefore (tokens text.now) es last e rest → last ≡ tokens x.1.now) }
+    ensures unread { IsUnread result → (es : List Expr) (e : Expr) (last rest : List Token) → AreBefore (tokens text.now) es last e rest → ⊥ }
+{
+    let mut writes = Items::new(alloc);
+    let mut rest = text;
+    while let Some(after) = write_byte(rest) {
+        let (e, left) = read_last(alloc, after, 2)?;
+        writes.push(e)?;
+        rest = left;
+    }
+    Ok((writes, rest))
+}
+
+// What follows `(define (main)` at the front.
+fn head(text: &[u8]) -> Option<&[u8]>
+    ensures some { IfSome result (λ body. IsHead (tokens text.now) (tokens body.now)) }
+    ensures none { IfNone result ((body : List Token) → IsHead (tokens text.now) body → ⊥) }
+{
+    let after = open(text)?;
+    let (define, after) = word(after)?;
+    let after = open(after)?;
+    let (main, after) = word(after)?;
+    let body = close(after)?;
+    if !names(define, b"define") || !names(main, b"main") {
+        return None;
+    }
+    Some(body)
+}
+
+/// Reads a program, `(define (main) (write-byte W) ... E)`, in time linear in the length of its text.
+///
+/// It is `NotBuilt` where the text is not the text of a program, and `NoMemory` where memory ran out.
+pub fn read_program(alloc: Global, text: &[u8]) -> Result<Program, Unread>
+    ensures read { IfOk result (λ p. IsProgram text.now p) }
+    ensures unread { IsUnread result → (p : Program) → IsProgram text.now p → ⊥ }
+{
+    let Some(body) = head(text) else {
+        return Err(Unread::NotBuilt);
+    };
+    let (writes, after) = read_writes(alloc, body)?;
+    let (value, after) = read_last(alloc, after, 1)?;
     if !is_end(after) {
         return Err(Unread::NotBuilt);
     }
-    Ok(e)
+    Ok(Program { writes, value })
 }

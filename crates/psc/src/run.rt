@@ -49,8 +49,9 @@ fn compile<I: Source, O: Sink>(alloc: Global, input: &mut I, output: &mut O) -> 
 /// All that the program does: reads the words, reads the text of the input to its end, and writes its translation to C to
 /// the output.
 ///
-/// The words are exactly `compile`. A text is `(define (main) E)` of at most 4,194,304 bytes, where E is an integer of 64
-/// bits or a sum `(+ E E)`, with at most 200 brackets open at once.
+/// The words are exactly `compile`. A text is `(define (main) W ... E)` of at most 4,194,304 bytes. Each W is
+/// `(write-byte E)`. E is an integer of 64 bits, an operation `(+ E E)`, `(- E E)` or `(* E E)`, or a conditional
+/// `(if (< E E) E E)`. At most 200 brackets are open at once.
 ///
 /// # Answers
 ///

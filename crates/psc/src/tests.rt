@@ -9,7 +9,7 @@ use crate::read::read_program;
 use crate::run::run_psc;
 use c_meaning::{CState, PRELUDE, StepOut, step};
 use ps_base::{
-    Fault, FormKind, Items, ModuleKind, Name, Names, Op, Place, Position, Sink, SurviveKind,
+    Event, Fault, FormKind, Items, ModuleKind, Name, Names, Op, Place, Position, Sink, SurviveKind,
     SyntaxKind, Taken, World,
 };
 use ps_edge::{MemorySink, MemorySource};
@@ -61,19 +61,28 @@ fn compiled(alloc: Global, text: &[u8]) -> Result<(Answer, MemorySink), Fail> {
     Ok((answer, output))
 }
 
-// A program of this many nested sums.
-fn nested(alloc: Global, sums: usize) -> Result<Vec<u8>, Fail> {
+// A program of this many nested expressions, which begin and end so.
+fn nested(alloc: Global, begin: &[u8], count: usize, end: &[u8]) -> Result<Vec<u8>, Fail> {
     let mut text = Vec::from_slice(alloc, b"(define (main) ")?;
-    for _ in 0..sums {
-        text.extend_from_slice(b"(+ 1 ")?;
+    for _ in 0..count {
+        text.extend_from_slice(begin)?;
     }
     text.extend_from_slice(b"1")?;
-    for _ in 0..sums {
-        text.extend_from_slice(b")")?;
+    for _ in 0..count {
+        text.extend_from_slice(end)?;
     }
     text.extend_from_slice(b")")?;
     Ok(text)
 }
+
+// How deep expressions that begin and end so may be nested, and no deeper: a conditional's test opens a bracket of its own.
+type Nesting = (&'static [u8], &'static [u8], usize);
+
+const NESTINGS: &[Nesting] = &[
+    (b"(+ 1 ", b")", 199),
+    (b"(* ", b" 1)", 199),
+    (b"(if (< 1 2) 3 ", b")", 198),
+];
 
 #[test]
 fn compiles_programs_alone(rt: HostRuntime) -> Result<(), Fail> {
@@ -101,7 +110,35 @@ fn compiles_programs_alone(rt: HostRuntime) -> Result<(), Fail> {
         (b"(define (main) (+ 1 2 3))", NOT_BUILT),
         (b"(define (main) (+ 1))", NOT_BUILT),
         (b"(define (main) (+))", NOT_BUILT),
-        (b"(define (main) (- 1 2))", NOT_BUILT),
+        (b"(define (main) (- 1 2))", Answer::Done),
+        (b"(define (main) (* 1 2))", Answer::Done),
+        (b"(define (main) (* 4294967296 4294967296))", Answer::Done),
+        (b"(define (main) (if (< 2 1) 7 (+ 40 2)))", Answer::Done),
+        (b"(define (main) (IF(<(- 2)1)7 8))", NOT_BUILT),
+        (b"(define (main) (IF(<(- 2 0)1)7 8))", Answer::Done),
+        (b"(define (main) (write-byte 65) 0)", Answer::Done),
+        (
+            b"(define (main) (Write-Byte (if (< 1 2) 3 4))(write-byte 256) -1)",
+            Answer::Done,
+        ),
+        (b"(define (main) (write-byte 65))", NOT_BUILT),
+        (b"(define (main) 0 (write-byte 65))", NOT_BUILT),
+        (b"(define (main) (write-byte 65 66) 0)", NOT_BUILT),
+        (b"(define (main) (write-byte) 0)", NOT_BUILT),
+        (b"(define (main) (+ 1 (write-byte 65)))", NOT_BUILT),
+        (b"(define (main) (write-bytes 65) 0)", NOT_BUILT),
+        (b"(define (main) write-byte 65 0)", NOT_BUILT),
+        (b"(define (main) (if (< 1 2) 3))", NOT_BUILT),
+        (b"(define (main) (if (< 1 2) 3 4 5))", NOT_BUILT),
+        (b"(define (main) (if (< 1) 3 4))", NOT_BUILT),
+        (b"(define (main) (if (< 1 2 3) 4 5))", NOT_BUILT),
+        (b"(define (main) (if (> 1 2) 3 4))", NOT_BUILT),
+        (b"(define (main) (if 1 2 3))", NOT_BUILT),
+        (b"(define (main) (if < 1 2 3 4))", NOT_BUILT),
+        (b"(define (main) (< 1 2))", NOT_BUILT),
+        (b"(define (main) (/ 1 2))", NOT_BUILT),
+        (b"(define (main) (- 1))", NOT_BUILT),
+        (b"(define (main) (* 1 2 3))", NOT_BUILT),
         (b"(define (main) (1 + 2))", NOT_BUILT),
         (b"(define (main) +)", NOT_BUILT),
         (b"(define (main) -)", NOT_BUILT),
@@ -126,8 +163,18 @@ fn compiles_programs_alone(rt: HostRuntime) -> Result<(), Fail> {
         assert_eq!(rt; answer, *wanted);
         assert_eq!(rt; output.bytes().is_empty(), answer != Answer::Done);
     }
-    assert_eq!(rt; compiled(alloc, &nested(alloc, 199)?)?.0, Answer::Done);
-    assert_eq!(rt; compiled(alloc, &nested(alloc, 200)?)?.0, NOT_BUILT);
+    Ok(())
+}
+
+#[test]
+fn compiles_200_levels_alone(rt: HostRuntime) -> Result<(), Fail> {
+    let alloc = rt.alloc();
+    for (begin, end, deepest) in NESTINGS {
+        let text = nested(alloc, begin, *deepest, end)?;
+        assert_eq!(rt; compiled(alloc, &text)?.0, Answer::Done);
+        let text = nested(alloc, begin, *deepest + 1, end)?;
+        assert_eq!(rt; compiled(alloc, &text)?.0, NOT_BUILT);
+    }
     Ok(())
 }
 
@@ -151,6 +198,14 @@ fn writes_the_text_of_the_unit(rt: HostRuntime) -> Result<(), Fail> {
             b"(define (main) (+ (+ 1 2) (+ 3 -4)))",
             b"  int64_t v0;\n  int64_t v1;\n  int64_t v2;\n  v0 = INT64_C(1) + INT64_C(2);\n  v1 = INT64_C(3) + (-INT64_C(4));\n  v2 = v0 + v1;\n  return v2;\n",
         ),
+        (
+            b"(define (main) (write-byte (- 70 5)) (* 2 3))",
+            b"  int64_t v0;\n  int64_t v1;\n  int64_t v2;\n  v0 = INT64_C(70) - INT64_C(5);\n  v1 = ps_write(v0);\n  v2 = INT64_C(2) * INT64_C(3);\n  return v2;\n",
+        ),
+        (
+            b"(define (main) (if (< 2 1) 7 (+ 40 2)))",
+            b"  int64_t v0;\n  int64_t v1;\n  v0 = INT64_C(2) < INT64_C(1);\n  if (v0) goto L0;\n  v1 = INT64_C(40) + INT64_C(2);\n  v0 = v1;\n  goto L1;\nL0:;\n  v0 = INT64_C(7);\nL1:;\n  return v0;\n",
+        ),
     ];
     for (text, body) in texts {
         let (answer, output) = compiled(alloc, text)?;
@@ -164,8 +219,8 @@ fn writes_the_text_of_the_unit(rt: HostRuntime) -> Result<(), Fail> {
     Ok(())
 }
 
-// How the machine's run of a program's unit ends.
-fn run_of(alloc: Global, text: &[u8]) -> Result<StepOut, Fail>
+// How the machine's run of a program's unit ends, and what it writes.
+fn run_of(alloc: Global, text: &[u8]) -> Result<(StepOut, Items<Event>), Fail>
     requires { length text.now < 2 ^ 20 }
 {
     let program = read_program(alloc, text)?;
@@ -176,51 +231,184 @@ fn run_of(alloc: Global, text: &[u8]) -> Result<StepOut, Fail>
     'steps: for _ in 0..1000 {
         match step(&unit, &mut state, &mut world, &mut events) {
             StepOut::Going => {}
-            StepOut::Returned(i) => return Ok(StepOut::Returned(i)),
-            StepOut::Stuck(op) => return Ok(StepOut::Stuck(op)),
+            StepOut::Returned(i) => return Ok((StepOut::Returned(i), events)),
+            StepOut::Stuck(op) => return Ok((StepOut::Stuck(op), events)),
+            StepOut::NoMemory => return Ok((StepOut::NoMemory, events)),
         }
     }
-    Ok(StepOut::Going)
+    Ok((StepOut::Going, events))
 }
+
+// A program, how its unit's run ends, and the bytes that it writes before.
+type Run = (&'static [u8], StepOut, &'static [i64]);
+
+const RUNS: &[Run] = &[
+    (b"(define (main) 42)", StepOut::Returned(42), &[]),
+    (b"(define (main) (+ 40 2))", StepOut::Returned(42), &[]),
+    (
+        b"(define (main) (+ (+ 1 (+ 2 3)) (+ (+ 4 5) -6)))",
+        StepOut::Returned(9),
+        &[],
+    ),
+    (
+        b"(define (main) 9223372036854775807)",
+        StepOut::Returned(i64::MAX),
+        &[],
+    ),
+    (
+        b"(define (main) -9223372036854775808)",
+        StepOut::Returned(i64::MIN),
+        &[],
+    ),
+    (
+        b"(define (main) (+ 9223372036854775806 1))",
+        StepOut::Returned(i64::MAX),
+        &[],
+    ),
+    (
+        b"(define (main) (+ 9223372036854775807 1))",
+        StepOut::Stuck(Op::Overflow),
+        &[],
+    ),
+    (
+        b"(define (main) (+ -9223372036854775808 -1))",
+        StepOut::Stuck(Op::Overflow),
+        &[],
+    ),
+    (
+        b"(define (main) (+ 1 (+ (+ 9223372036854775807 1) -1)))",
+        StepOut::Stuck(Op::Overflow),
+        &[],
+    ),
+    (b"(define (main) (- 2 5))", StepOut::Returned(-3), &[]),
+    (
+        b"(define (main) (- (- 10 4) (- 3 1)))",
+        StepOut::Returned(4),
+        &[],
+    ),
+    (
+        b"(define (main) (- -2 9223372036854775807))",
+        StepOut::Stuck(Op::Overflow),
+        &[],
+    ),
+    (b"(define (main) (* -6 7))", StepOut::Returned(-42), &[]),
+    (
+        b"(define (main) (* -4294967296 2147483648))",
+        StepOut::Returned(i64::MIN),
+        &[],
+    ),
+    (
+        b"(define (main) (* 4294967296 2147483648))",
+        StepOut::Stuck(Op::Overflow),
+        &[],
+    ),
+    (
+        b"(define (main) (* 4294967296 4294967296))",
+        StepOut::Stuck(Op::Overflow),
+        &[],
+    ),
+    (
+        b"(define (main) (if (< 2 1) 7 (+ 40 2)))",
+        StepOut::Returned(42),
+        &[],
+    ),
+    (
+        b"(define (main) (if (< 1 2) 7 (+ 40 2)))",
+        StepOut::Returned(7),
+        &[],
+    ),
+    (
+        b"(define (main) (if (< 2 2) 7 8))",
+        StepOut::Returned(8),
+        &[],
+    ),
+    (
+        b"(define (main) (if (< 1 2) 7 (* 4294967296 4294967296)))",
+        StepOut::Returned(7),
+        &[],
+    ),
+    (
+        b"(define (main) (if (< 2 1) (* 4294967296 4294967296) 8))",
+        StepOut::Returned(8),
+        &[],
+    ),
+    (
+        b"(define (main) (if (< (* 4294967296 4294967296) 1) 7 8))",
+        StepOut::Stuck(Op::Overflow),
+        &[],
+    ),
+    (
+        b"(define (main) (if (< 1 2) (if (< 2 1) 1 (if (< 1 2) 2 3)) (if (< 1 2) 4 5)))",
+        StepOut::Returned(2),
+        &[],
+    ),
+    (
+        b"(define (main) (if (< 2 1) (if (< 2 1) 1 2) (if (< 2 1) 3 (if (< 2 1) 4 5))))",
+        StepOut::Returned(5),
+        &[],
+    ),
+    (
+        b"(define (main) (if (< (if (< 1 2) 3 4) (if (< 2 1) 3 4)) (- (if (< 1 2) 50 6) (if (< 2 1) 7 8)) 9))",
+        StepOut::Returned(42),
+        &[],
+    ),
+    (
+        b"(define (main) (write-byte 0) (write-byte 255) (write-byte (+ 60 5)) 1)",
+        StepOut::Returned(1),
+        &[0, 255, 65],
+    ),
+    (
+        b"(define (main) (write-byte 72) (write-byte (+ 100 5)) (write-byte (if (< (* 6 7) 42) 63 33)) (write-byte 10) (- 10 3))",
+        StepOut::Returned(7),
+        &[72, 105, 33, 10],
+    ),
+    (
+        b"(define (main) (write-byte 256) 1)",
+        StepOut::Stuck(Op::Byte),
+        &[],
+    ),
+    (
+        b"(define (main) (write-byte -1) 1)",
+        StepOut::Stuck(Op::Byte),
+        &[],
+    ),
+    (
+        b"(define (main) (write-byte 7) (write-byte (- 0 1)) (write-byte 8) 1)",
+        StepOut::Stuck(Op::Byte),
+        &[7],
+    ),
+    (
+        b"(define (main) (write-byte 7) (write-byte 8) (* 4294967296 4294967296))",
+        StepOut::Stuck(Op::Overflow),
+        &[7, 8],
+    ),
+    (
+        b"(define (main) (write-byte 7) (write-byte (* 4294967296 4294967296)) (write-byte 8) 1)",
+        StepOut::Stuck(Op::Overflow),
+        &[7],
+    ),
+    (
+        b"(define (main) (write-byte (if (< 1 2) 9 10)) (write-byte (if (< 2 1) 11 12)) (if (< 3 4) 5 6))",
+        StepOut::Returned(5),
+        &[9, 12],
+    ),
+];
 
 #[test]
 fn units_do_what_their_programs_do(rt: HostRuntime) -> Result<(), Fail> {
     let alloc = rt.alloc();
-    let texts: &[(&[u8], StepOut)] = &[
-        (b"(define (main) 42)", StepOut::Returned(42)),
-        (b"(define (main) (+ 40 2))", StepOut::Returned(42)),
-        (
-            b"(define (main) (+ (+ 1 (+ 2 3)) (+ (+ 4 5) -6)))",
-            StepOut::Returned(9),
-        ),
-        (
-            b"(define (main) 9223372036854775807)",
-            StepOut::Returned(i64::MAX),
-        ),
-        (
-            b"(define (main) -9223372036854775808)",
-            StepOut::Returned(i64::MIN),
-        ),
-        (
-            b"(define (main) (+ 9223372036854775806 1))",
-            StepOut::Returned(i64::MAX),
-        ),
-        (
-            b"(define (main) (+ 9223372036854775807 1))",
-            StepOut::Stuck(Op::Overflow),
-        ),
-        (
-            b"(define (main) (+ -9223372036854775808 -1))",
-            StepOut::Stuck(Op::Overflow),
-        ),
-        (
-            b"(define (main) (+ 1 (+ (+ 9223372036854775807 1) -1)))",
-            StepOut::Stuck(Op::Overflow),
-        ),
-    ];
-    for (text, wanted) in texts {
+    for (text, wanted, bytes) in RUNS {
         assert!(rt; text.len() < 1000);
-        assert_eq!(rt; run_of(alloc, text)?, *wanted);
+        let (out, events) = run_of(alloc, text)?;
+        assert_eq!(rt; out, *wanted);
+        let written = events.as_slice();
+        assert_eq!(rt; written.len(), bytes.len());
+        assert!(rt;
+            written
+                .iter()
+                .zip(*bytes)
+                .all(|(event, b)| *event == Event::Output(*b))
+        );
     }
     Ok(())
 }

@@ -1,6 +1,6 @@
-use Rattle.std.proofs.Common.{◌≡◌, length, ◌≤◌, arith}
+use Rattle.std.proofs.Common.{arith}
 use Rattle.std.proofs.lemmas.Option.{slice_get_past}
-use Rattle.psc.specs.Lines.{name_text, text_or_none}
+use Rattle.psc.specs.Lines.{name_text}
 use Rattle.psc.proofs.lines.put_name.Goals as goal
 
 pub returns-then-name-len : goal.returns-then-name-len

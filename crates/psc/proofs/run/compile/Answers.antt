@@ -6,8 +6,8 @@ use Rattle.ps_meaning.specs.Text.{IsProgram}
 use Rattle.c_meaning.specs.Text.{text_of}
 use Rattle.psc.specs.Answers.{limit, ReadsAll}
 use Rattle.psc.specs.Reading.{IsNotBuilt as IsRefusal}
-use Rattle.psc.proofs.Formed.{few-variables}
-use Rattle.psc.proofs.Correct.{compiles}
+use Rattle.psc.proofs.Formed.{few-numbers}
+use Rattle.psc.proofs.Compiled.{compiles}
 use Rattle.psc.proofs.run.compile.Goals as goal
 
 -- a text that was read to its end within the limit
@@ -17,11 +17,17 @@ reads-all i i' n text e h = record { taken = h.0; spent = h.1; within = omega (a
 small : (n : ℕ) (text : List ℕ) → n ≡ limit → length text ≤ n → length text < 2 ^ 32
 small n text e le = omega arith
 
-pub build-requires : goal.build-requires
-build-requires g c =
+pub build-requires-clause-variables : goal.build-requires-clause-variables
+build-requires-clause-variables g c =
     let bound = ap (λ (l : Limits). l.text_bytes) c.standard.ensures in
     let p = subst (λ t. IsProgram t c.in-Ok-read_program.program) c.as_slice.ensures c.in-Ok-read_program.ensures.read in
-    omega (arith, few-variables c.in-Ok.text c.in-Ok-read_program.program p, c.in-Ok.ensures.2, bound)
+    omega (arith, few-numbers c.in-Ok.text c.in-Ok-read_program.program p, c.in-Ok.ensures.2, bound)
+
+pub build-requires-clause-labels : goal.build-requires-clause-labels
+build-requires-clause-labels g c =
+    let bound = ap (λ (l : Limits). l.text_bytes) c.standard.ensures in
+    let p = subst (λ t. IsProgram t c.in-Ok-read_program.program) c.as_slice.ensures c.in-Ok-read_program.ensures.read in
+    omega (arith, few-numbers c.in-Ok.text c.in-Ok-read_program.program p, c.in-Ok.ensures.2, bound)
 
 pub returns-in-Err-NotBuilt : goal.returns-in-Err-NotBuilt
 returns-in-Err-NotBuilt g c =
