@@ -176,4 +176,4 @@ pub step-stands : (u : CUnit) (f f' : Frame) (w : Surroundings) (e e' : List Eve
 step-stands u f f' w e e' outs.Going h step = stands-after u f f' w e e' h step
 step-stands u f f' w e e' (outs.Returned i) h step = subst (Stands u) (sym step.1) h
 step-stands u f f' w e e' (outs.Stuck op) h step = subst (Stands u) (sym step.1) h
-step-stands u f f' w e e' outs.NoMemory h step = subst (Stands u) (sym step.0) h
+step-stands u f f' w e e' outs.NoMemory h step = subst (Stands u) (sym step.1) h

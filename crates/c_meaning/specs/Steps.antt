@@ -1,5 +1,5 @@
 -- What a run by code has to do with the machine: the code keeps the place of the next statement.
-use Rattle.std.specs.Prelude.{◌≡◌, ℕ, ◌+◌, ◌<◌, List, drop, length, replicate, None}
+use Rattle.std.specs.Prelude.{◌≡◌, ℕ, ◌+◌, ◌<◌, List, [], ◌∷◌, ◌++◌, drop, length, replicate, None}
 use Rattle.std.specs.List.{AllByRecursion}
 use Rattle.ps_base.specs.declared.world.Event.{Event}
 use Rattle.ps_base.specs.Outcome.{Returned, Stuck}
@@ -30,12 +30,17 @@ pub record Stands (u : CUnit) (f : Frame) : Type 0 where
   pub declared : AllByRecursion (IsStatement u.locals (length (labels_of u.statements))) (drop f.next u.statements)
   pub returns : EndsWell (drop f.next u.statements)
 
--- What one step by code has to do with a move of the machine: it goes to the new state, or to an end that leaves all as it was. Want of memory leaves all as it was, too.
+-- the move adds one event
+abbrev pub Notes : Move State → List Event → Type 0
+Notes (Goes s) t = (e : Event) × (s.events ≡ t ++ e ∷ [])
+Notes (Ends end) t = ⊥
+
+-- What one step by code has to do with a move of the machine: it goes to the new state, or to an end that leaves all as it was. Want of memory comes only where the move would add an event, and leaves all as it was, too.
 abbrev pub IsMove : StepOut → Move State → State → Frame → Frame → List Event → List Event → Type 0
 IsMove outs.Going move s' f f' t t' = move ≡ Goes s'
 IsMove (outs.Returned i) move s' f f' t t' = (move ≡ Ends (Returned i)) × (f' ≡ f) × (t' ≡ t)
 IsMove (outs.Stuck op) move s' f f' t t' = (move ≡ Ends (Stuck op)) × (f' ≡ f) × (t' ≡ t)
-IsMove outs.NoMemory move s' f f' t t' = (f' ≡ f) × (t' ≡ t)
+IsMove outs.NoMemory move s' f f' t t' = Notes move t × (f' ≡ f) × (t' ≡ t)
 
 -- a jump by code, with no event
 abbrev pub Jumps : StepOut → List Statement → ℕ → Frame → Frame → Type 0

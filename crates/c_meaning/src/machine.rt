@@ -37,7 +37,7 @@ pub enum StepOut {
     /// The statement has no meaning in this state: `Unset` where it reads a variable that was never assigned,
     /// `Overflow` where its result has no 64 bits, and `Byte` where it writes what is no byte.
     Stuck(Op),
-    /// Memory for the list of events ran out.
+    /// Memory for the list of events ran out, at a statement that would write a byte.
     NoMemory,
 }
 
