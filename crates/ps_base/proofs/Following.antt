@@ -1,11 +1,12 @@
 -- A run that follows another step by step agrees with it.
-use Rattle.std.proofs.Common.{◌≡◌, ℕ, zero, suc, ◌+◌, ◌-◌, ◌*◌, ◌≤◌, refl, sym, ap, ◌∙◌, subst, inl, inr, ⊎_elim, arith}
-use Rattle.std.specs.Prelude.{◌≢◌}
+use Rattle.std.proofs.Common.{◌≡◌, ℕ, ℤ, zero, suc, ◌+◌, ◌-◌, ◌*◌, ◌≤◌, refl, sym, ap, ◌∙◌, subst, inl, inr, ⊎_elim, arith}
+use Rattle.std.specs.Prelude.{◌⊎◌, ◌≢◌, ◌<◌}
 use Rattle.std.proofs.Math.Nat.{le_of_mul-le-mul_left}
-use Rattle.ps_base.specs.Outcome.{Outcome, Outcomes, End, Running, Begins}
-use Rattle.ps_base.specs.Agree.{IsUndefinedWithin, IsReturned, DoesAll, Agree, Progresses, FollowsAt, StandsFor, FollowingGivesAgree, Grows, GrowingKeeps, IsDefined, DoTheSame}
+use Rattle.std.proofs.lemmas.Bool.{cases_lt}
+use Rattle.ps_base.specs.Outcome.{Outcome, Outcomes, End, Returned, Running, Begins, IsUndefined}
+use Rattle.ps_base.specs.Agree.{IsUndefinedWithin, IsReturned, DoesAll, Agree, Progresses, FollowsAt, StandsFor, FollowingGivesAgree, Grows, GrowingKeeps, KeepsWhatItHas, Deepens, FollowsLow, FollowingGivesShallow, IsDefined, DoTheSame}
 use Rattle.ps_base.proofs.Fronts.{begins_self, begins_eq, begins_trans}
-use Rattle.ps_base.proofs.Progress.{is_running_or_not, progress}
+use Rattle.ps_base.proofs.Progress.{is_running_or_not, progress, sound_over, events_grow}
 
 module _ (share : ℕ) (X Y : Outcomes) (follows : (n : ℕ) → FollowsAt share X Y n) where
   following_does_all : DoesAll X Y
@@ -72,4 +73,45 @@ where_defined X Y agree fine = record {
       let n = agree.only.performs m in
       (n.0, ⊎_elim (λ (r : Begins (Y m).events (X n.0).events). r) (λ (u : IsUndefinedWithin (X n.0) (Y m).events). absurd (fine n.0 u.ends)) n.1);
   defined = λ m h. let n = agree.only.undefined m h in fine n.0 n.1.ends;
+}
+
+module _ (share above : ℕ) (X Y : Outcomes) (ky : KeepsWhatItHas Y) (deep : Deepens Y) where
+  -- the bound is not before m, or the run is over there
+  shallow_by : (m n : ℕ) (f : FollowsLow share above X Y n) → (m ≤ f.follows.bound) ⊎ ((Y f.follows.bound).end ≢ Running) → (Y m).depth ≤ (X n).depth + above
+  shallow_by m n f h =
+      let low = f.low in
+      ⊎_elim
+      (λ (le : m ≤ f.follows.bound). omega (arith, deep.by m f.follows.bound le))
+      (λ (over : (Y f.follows.bound).end ≢ Running).
+      ⊎_elim
+      (λ (lt : f.follows.bound < m). let same = ky.keeps f.follows.bound m (omega arith) over in subst (λ (o : Outcome). o.depth ≤ (X n).depth + above) (sym same) low)
+      (λ (le : m ≤ f.follows.bound). omega (arith, deep.by m f.follows.bound le))
+      (cases_lt f.follows.bound m))
+      h
+
+pub following_shallow : FollowingGivesShallow
+following_shallow share above X Y ky deep sound follows = record {
+  at = λ m.
+      let n = (share + 1) * (m + 1) in
+      let f = follows n in
+      let b = f.follows.bound in
+      let low = f.low in (
+        n,
+        ⊎_elim
+            (λ (r : (X n).end ≡ Running).
+            let up : m + 1 ≤ b + 1 = le_of_mul-le-mul_left (f.follows.enough r) (omega arith) in
+            inl (shallow_by share above X Y ky deep m n f (inl (omega (arith, up)))))
+            (λ (o : (X n).end ≢ Running).
+            ⊎_elim
+            (λ (x : (r : ℤ) × ((X n).end ≡ Returned r)).
+            let ended : (Y b).end ≡ Returned x.0 = subst (λ (e : End). StandsFor e (Y b).end) x.1 f.follows.matches.ends in
+            inl (shallow_by share above X Y ky deep m n f (inr (λ q. cc))))
+            (λ (u : IsUndefined (X n).end).
+            ⊎_elim
+            (λ (lt : b < m). inr (record { ends = u; before = begins_trans _ _ _ (begins_eq _ _ (sym f.follows.matches.did)) (events_grow Y ky b m (omega arith)) }))
+            (λ (le : m ≤ b). inl (omega (arith, deep.by m b le)))
+            (cases_lt b m))
+            (sound_over (X n).end (sound n) o))
+            (is_running_or_not (X n).end),
+      );
 }

@@ -1,10 +1,11 @@
 -- Laws of machines of small steps.
-use Rattle.std.proofs.Common.{◌≡◌, ℕ, zero, suc, ◌+◌, refl, sym, ap, ◌∙◌, subst, arith}
+use Rattle.std.proofs.Common.{◌≡◌, ℕ, zero, suc, ◌+◌, ◌-◌, ◌≤◌, refl, sym, ap, ◌∙◌, subst, arith}
 use Rattle.ps_base.specs.Outcome.{Outcome, Begins}
-use Rattle.ps_base.specs.Agree.{Grows, KeepsWhatItHas}
+use Rattle.ps_base.specs.Agree.{Grows, KeepsWhatItHas, Deepens}
 use Rattle.ps_base.specs.Machine.{Move, Goes, Ends, Machine, greater, after_move, run_from, machine_run, OnlyAdds, Steps}
 use Rattle.ps_base.proofs.Fronts.{begins_self, begins_trans}
 use Rattle.ps_base.proofs.Following.{growing_keeps}
+use Rattle.ps_base.proofs.Greater.{greater_ge_left}
 
 module _ {S : Type 0} (M : Machine S) where
   begins_move : OnlyAdds M → (go : ℕ → S → Outcome) → ((d : ℕ) (t : S) → Begins (M.events t) (go d t).events) → (depth : ℕ) (s : S) (v : Move S) → M.step s ≡ v → Begins (M.events s) (after_move M v s depth go).events
@@ -47,3 +48,30 @@ module _ {S : Type 0} (M : Machine S) where
   steps_join (suc j) k s t u h i =
       let z : suc (j + k) ≡ suc j + k = omega arith in
       subst (λ (n : ℕ). Steps M n s u) z (h.0, h.1, steps_join j k h.0 t u h.2 i)
+
+deeper_move : {S : Type 0} (M : Machine S) (f g : ℕ → S → Outcome) → ((d : ℕ) (t : S) → (f d t).depth ≤ (g d t).depth) → (depth : ℕ) (s : S) (v : Move S) → (after_move M v s depth f).depth ≤ (after_move M v s depth g).depth
+deeper_move M f g h depth s (Goes t) = h depth t
+deeper_move M f g h depth s (Ends e) = omega arith
+
+from_move : {S : Type 0} (M : Machine S) (g : ℕ → S → Outcome) → ((d : ℕ) (t : S) → d ≤ (g d t).depth) → (depth : ℕ) (s : S) (v : Move S) → depth ≤ (after_move M v s depth g).depth
+from_move M g h depth s (Goes t) = h depth t
+from_move M g h depth s (Ends e) = omega arith
+
+depth_from : {S : Type 0} (M : Machine S) (n depth : ℕ) (s : S) → depth ≤ (run_from M n depth s).depth
+depth_from M zero depth s = greater_ge_left depth (M.frames s)
+depth_from M (suc n) depth s =
+    let h = from_move M (λ d t. run_from M n d t) (depth_from M n) (greater depth (M.frames s)) s (M.step s) in
+    omega (arith, h, greater_ge_left depth (M.frames s))
+
+deeper_run : {S : Type 0} (M : Machine S) (n depth : ℕ) (s : S) → (run_from M n depth s).depth ≤ (run_from M (suc n) depth s).depth
+deeper_run M zero depth s = from_move M (λ d t. run_from M 0 d t) (depth_from M 0) (greater depth (M.frames s)) s (M.step s)
+deeper_run M (suc n) depth s = deeper_move M (λ d t. run_from M n d t) (λ d t. run_from M (suc n) d t) (deeper_run M n) (greater depth (M.frames s)) s (M.step s)
+
+deeper_by : {S : Type 0} (M : Machine S) (n k : ℕ) (s : S) → (machine_run M s n).depth ≤ (machine_run M s (k + n)).depth
+deeper_by M n zero s = let e : n ≡ 0 + n = omega arith in subst (λ (i : ℕ). (machine_run M s n).depth ≤ (machine_run M s i).depth) e (omega arith)
+deeper_by M n (suc k) s =
+    let e : suc (k + n) ≡ suc k + n = omega arith in
+    subst (λ (i : ℕ). (machine_run M s n).depth ≤ (machine_run M s i).depth) e (omega (arith, deeper_by M n k s, deeper_run M (k + n) 0 s))
+
+pub machine_deepens : {S : Type 0} (M : Machine S) (s : S) → Deepens (machine_run M s)
+machine_deepens M s = record { by = λ n m le. let e : m - n + n ≡ m = omega arith in subst (λ (i : ℕ). (machine_run M s n).depth ≤ (machine_run M s i).depth) e (deeper_by M n (m - n) s) }

@@ -1,11 +1,13 @@
 -- Tables of texts over an index set.
 use Rattle.std.proofs.Common.{◌≡◌, ℕ, zero, suc, ◌+◌, List, [], ◌∷◌, ◌++◌, length, map, Some, refl, sym, ap, ◌∙◌, subst, arith, Bool, true, false, not, cond, ◌||◌, ◌⊎◌, inl, inr, ⊎_elim}
 use Rattle.std.proofs.Common.{Vec, Global}
-use Rattle.std.specs.Prelude.{slice_get}
-use Rattle.std.specs.List.{list_any, find, position_or_len}
+use Rattle.std.specs.Prelude.{slice_get, nat_lt, if◌then◌else◌, None, Option, ◌<◌}
+use Rattle.std.specs.Option.{option_map}
+use Rattle.std.specs.List.{list_any, find, position_or_len, position}
+use Rattle.std.proofs.lemmas.Bool.{ltb-true, lt-ltb}
 use Rattle.std.specs.Str.{bytes_eq}
 use Rattle.std.proofs.lemmas.Slice.Eq.{bytes_eq-Decides}
-use Rattle.ps_base.specs.Names.{AreDistinct, IsNew}
+use Rattle.ps_base.specs.Names.{AreDistinct, IsNew, number_of}
 
 pub true_or_false : (b : Bool) → (b ≡ true) ⊎ (b ≡ false)
 true_or_false true = inl refl
@@ -62,3 +64,35 @@ distinct-more texts text d new i j t h k =
     (λ a. ⊎_elim (λ b. d i j t a b) (λ b. absurd (new i (a ∙ ap (λ x. Some x) b.1))) (front-or-last texts text t j k))
     (λ a. ⊎_elim (λ b. absurd (new j (b ∙ ap (λ x. Some x) a.1))) (λ b. a.0 ∙ sym b.0) (front-or-last texts text t j k))
     (front-or-last texts text t i h)
+
+not-below : (n len : ℕ) → nat_lt n len ≡ false → nat_lt (1 + n) (suc len) ≡ false
+not-below n len h0 =
+    ⊎_elim
+    (λ yes. let lt : n < len = omega (arith, ltb-true (1 + n) (suc len) yes) in let e = lt-ltb n len lt in absurd (let clash : true ≡ false = sym e ∙ h0 in cc))
+    (λ h. h)
+    (true_or_false (nat_lt (1 + n) (suc len)))
+
+-- the first place at which a text stands in a table
+pub position-is : (keys : List (Vec ℕ Global)) (text : List ℕ) → position (λ k. bytes_eq text k.items) keys ≡ number_of (map (λ k. k.items) keys) text
+position-is [] text = refl
+position-is (k ∷ keys) text =
+    let p : Vec ℕ Global → Bool = λ v. bytes_eq text v.items in
+    let n = position_or_len p keys in
+    ⊎_elim
+    (λ yes. ap (λ t. cond (nat_lt (cond (not t) (1 + n) 0) (length (k ∷ keys))) (Some (cond (not t) (1 + n) 0)) None) yes ∙ ap (λ t. cond t (Some 0) None) (lt-ltb 0 (length (k ∷ keys)) (omega arith)) ∙ sym (ap (λ t. if t then Some 0 else option_map suc (number_of (map (λ v. v.items) keys) text)) yes))
+    (λ no.
+    let first : position p (k ∷ keys) ≡ cond (nat_lt (1 + n) (length (k ∷ keys))) (Some (1 + n)) None = ap (λ t. cond (nat_lt (cond (not t) (1 + n) 0) (length (k ∷ keys))) (Some (cond (not t) (1 + n) 0)) None) no in
+    let last : number_of (map (λ v. v.items) (k ∷ keys)) text ≡ option_map suc (number_of (map (λ v. v.items) keys) text) = ap (λ t. if t then Some 0 else option_map suc (number_of (map (λ v. v.items) keys) text)) no in
+    first ∙ later n (length keys) ∙ ap (option_map suc) (position-is keys text) ∙ sym last)
+    (true_or_false (bytes_eq text k.items))
+  where
+    later : (n len : ℕ) → cond (nat_lt (1 + n) (suc len)) (Some (1 + n)) None ≡ option_map suc (cond (nat_lt n len) (Some n) None)
+    later n len =
+        let one : 1 + n ≡ suc n = omega arith in
+        ⊎_elim
+        (λ yes.
+        let lt : 1 + n < suc len = omega (arith, ltb-true n len yes) in
+        ap (λ t. cond t (Some (1 + n)) None) (lt-ltb (1 + n) (suc len) lt) ∙ ap Some one ∙ sym (ap (λ t. option_map suc (cond t (Some n) None)) yes))
+        (λ no.
+        ap (λ t. cond t (Some (1 + n)) None) (not-below n len no) ∙ sym (ap (λ t. option_map suc (cond t (Some n) None)) no))
+        (true_or_false (nat_lt n len))

@@ -79,6 +79,20 @@ abbrev pub FollowingGivesAgree : Type 0
 FollowingGivesAgree =
     (share : ℕ) (X Y : Outcomes) → KeepsWhatItHas X → KeepsWhatItHas Y → IsSoundRun X → ((n : ℕ) → FollowsAt share X Y n) → Agree X Y
 
+-- a larger bound is at least as deep
+pub record Deepens (Y : Outcomes) : Type 0 where
+  pub by : (n m : ℕ) → n ≤ m → (Y n).depth ≤ (Y m).depth
+
+-- the same, where Y is at most `above` deeper there
+pub record FollowsLow (share above : ℕ) (X Y : Outcomes) (n : ℕ) : Type 0 where
+  pub follows : FollowsAt share X Y n
+  pub low : (Y follows.bound).depth ≤ (X n).depth + above
+
+-- a run that follows another closely is at most so much deeper
+abbrev pub FollowingGivesShallow : Type 0
+FollowingGivesShallow =
+    (share above : ℕ) (X Y : Outcomes) → KeepsWhatItHas Y → Deepens Y → IsSoundRun X → ((n : ℕ) → FollowsLow share above X Y n) → Shallow above X Y
+
 -- from one bound to the next, an outcome that is not Running stays, and events are only added
 pub record Grows (o p : Outcome) : Type 0 where
   pub stays : o.end ≢ Running → p ≡ o

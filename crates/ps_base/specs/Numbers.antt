@@ -1,5 +1,5 @@
 -- Integers of 64 bits in two's complement, and counters that stop at the last number of 64 bits (this project's own).
-use Rattle.std.specs.Prelude.{ℕ, ℤ, pos, negsuc, ◌+◌, ◌-◌, ◌<◌, ◌≤◌, min, Bool, Option, Some, None, nat_lt, if◌then◌else◌}
+use Rattle.std.specs.Prelude.{ℕ, ℤ, pos, negsuc, ◌+◌, ◌-◌, ◌<◌, ◌≤◌, min, Bool, List, [], ◌∷◌, Option, Some, None, nat_lt, if◌then◌else◌}
 
 -- the integer has 64 bits: it is from -2^63 to 2^63 - 1
 abbrev pub IsWord : ℤ → Type 0
@@ -31,3 +31,8 @@ more n k = n + min k (last - n)
 -- a count of faults rose, or stands at its last number
 abbrev pub Rose : ℕ → ℕ → Type 0
 Rose old new = min (old + 1) last ≤ new
+
+-- the sum of some numbers
+abbrev pub sum_of : List ℕ → ℕ
+sum_of [] = 0
+sum_of (n ∷ ns) = n + sum_of ns

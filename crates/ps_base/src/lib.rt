@@ -20,8 +20,8 @@ pub use limits::Limits;
 pub use memory::NoMemory;
 pub use names::{Name, Names};
 pub use runs::{
-    agree_is_transitive, agree_where_defined, following_gives_agree, growing_keeps,
-    progress_gives_agree,
+    agree_is_transitive, agree_where_defined, following_gives_agree, following_gives_shallow,
+    growing_keeps, progress_gives_agree,
 };
 pub use sink::{Sink, SinkFault, Taken, write_all};
 pub use text::{Style, Written, put, put_all, put_each, put_number};

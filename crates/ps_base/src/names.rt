@@ -1,7 +1,7 @@
 //! A table of distinct texts.
 
-ghost use Rattle.std.specs.Prelude.{◌≡◌, ℕ, ◌<◌, ◌≤◌, ◌^◌, List, [], length, slice_get, Some, OnErr, IfOk, IsTrue, ◌↔◌};
-ghost use Rattle.ps_base.specs.Names.{AreDistinct, Adds};
+ghost use Rattle.std.specs.Prelude.{◌≡◌, ℕ, ◌<◌, ◌≤◌, ◌^◌, List, [], length, slice_get, None, Some, MatchOption, OnErr, IfOk, IsTrue, ◌↔◌};
+ghost use Rattle.ps_base.specs.Names.{AreDistinct, Adds, number_of};
 
 use crate::memory::NoMemory;
 use indexmap::IndexSet;
@@ -63,6 +63,16 @@ impl Names {
         match self.texts.get_index(name.0 as usize) {
             Some(text) => text.as_slice(),
             None => unreachable!(),
+        }
+    }
+
+    /// The number of a text, where it is in the table.
+    pub fn find(&self, text: &[u8]) -> Option<Name>
+        ensures { MatchOption result (number_of self.now text.now ≡ None) (λ name. number_of self.now text.now ≡ Some name.0) }
+    {
+        match self.texts.get_index_of(text) {
+            Some(number) => Some(Name(number as u32)),
+            None => None,
         }
     }
 

@@ -1,7 +1,7 @@
 //! The laws of runs: what it means that two of them agree, and how that is shown. Each law is the contract of a function
 //! that does nothing.
 
-ghost use Rattle.ps_base.specs.Agree.{AgreeIsTransitive, AgreeWhereDefined, FollowingGivesAgree, GrowingKeeps, ProgressGivesAgree};
+ghost use Rattle.ps_base.specs.Agree.{AgreeIsTransitive, AgreeWhereDefined, FollowingGivesAgree, FollowingGivesShallow, GrowingKeeps, ProgressGivesAgree};
 
 /// To agree is transitive.
 pub fn agree_is_transitive()
@@ -16,6 +16,11 @@ pub fn progress_gives_agree()
 /// A run that follows another agrees with it.
 pub fn following_gives_agree()
     ensures { FollowingGivesAgree }
+{}
+
+/// A run that follows another closely is at most so much deeper.
+pub fn following_gives_shallow()
+    ensures { FollowingGivesShallow }
 {}
 
 /// What grows from bound to bound keeps what it has.

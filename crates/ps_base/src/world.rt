@@ -74,6 +74,18 @@ impl World {
         }
     }
 
+    /// The next byte of the input, or -1 at its end. It stays there.
+    pub fn peek(&self) -> i64
+        ensures { result ≡ next_byte self.now.input }
+    {
+        let input = self.input.as_slice();
+        if self.read < input.len() {
+            i64::from(input[self.read])
+        } else {
+            -1
+        }
+    }
+
     /// Takes the next byte of the input, or answers -1 at its end.
     pub fn read(&mut self) -> i64
         ensures byte { result ≡ next_byte self.old.input }
