@@ -1,2 +1,4 @@
+-- The lemmas of this crate.
 pub mod Machines
+mod Frames
 mod Stepping

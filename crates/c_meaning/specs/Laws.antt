@@ -1,7 +1,7 @@
 -- The law of the machine.
 use Rattle.ps_base.specs.Agree.{KeepsWhatItHas}
 use Rattle.ps_base.specs.Worlds.{Surroundings}
-use Rattle.c_meaning.specs.declared.unit.CUnit.{CUnit}
+use Rattle.c_ast.specs.declared.unit.CUnit.{CUnit}
 use Rattle.c_meaning.specs.Machine.{CRun}
 
 abbrev pub LargerBoundKeeps : Type 0

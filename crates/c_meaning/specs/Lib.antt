@@ -1,5 +1,4 @@
-pub mod Text
-pub mod WellFormed
 pub mod Machine
+pub mod Stack
 pub mod Steps
 pub mod Laws

@@ -1,55 +1,114 @@
--- What a run by code has to do with the machine: the code keeps the place of the next statement.
-use Rattle.std.specs.Prelude.{◌≡◌, ℕ, ◌+◌, ◌<◌, List, [], ◌∷◌, ◌++◌, drop, length, replicate, None}
+-- What a run by code has to do with the machine: the code keeps, for each frame, the place of the next statement.
+use Rattle.std.specs.Prelude.{◌≡◌, ℕ, ℤ, ◌+◌, ◌<◌, List, [], ◌∷◌, ◌++◌, drop, length, slice_get, Some, ◌⊎◌}
 use Rattle.std.specs.List.{AllByRecursion}
 use Rattle.ps_base.specs.declared.world.Event.{Event}
 use Rattle.ps_base.specs.Outcome.{Returned, Stuck}
 use Rattle.ps_base.specs.Machine.{Move, Goes, Ends}
 use Rattle.ps_base.specs.Worlds.{Surroundings}
-use Rattle.c_meaning.specs.Machine.{Frame, State, after_label, jump, perform, machine}
-use Rattle.c_meaning.specs.WellFormed.{IsStatement, EndsWell, labels_of, IsWellFormed}
-use Rattle.c_meaning.specs.declared.unit.CUnit.{CUnit}
-use Rattle.c_meaning.specs.declared.unit.Statement.{Statement}
+use Rattle.c_ast.specs.declared.unit.CUnit.{CUnit}
+use Rattle.c_ast.specs.declared.unit.CFunction.{CFunction}
+use Rattle.c_ast.specs.WellFormed.{IsStatement, variables_of, IsWellFormed}
+use Rattle.c_ast.specs.declared.unit.Atom.{Atom}
+use Rattle.c_ast.specs.declared.unit.Statement.{Statement}
+use Rattle.c_ast.specs.declared.unit.Statement.TheVariants as statements
+use Rattle.c_meaning.specs.Machine.{Locals, Caller, State, after_label, body_of, jump, leave, perform, unset, locals_of, machine}
+use Rattle.c_meaning.specs.declared.stack.Waiting.{Waiting}
+use Rattle.c_meaning.specs.Stack.{Stack}
 use Rattle.c_meaning.specs.declared.machine.StepOut.{StepOut}
 use Rattle.c_meaning.specs.declared.machine.StepOut.TheVariants as outs
 
-abbrev pub starts_at : CUnit → Frame
-starts_at u = record { locals = replicate u.locals None; next = 0 }
+abbrev pub starts_at : CUnit → Stack
+starts_at u = record { function = 0; locals = unset (locals_of (slice_get u.functions 0)); next = 0; callers = [] }
 
--- the machine's state that a frame of the unit stands for
-abbrev pub body_state : List Statement → Frame → Surroundings → List Event → State
-body_state body f w e = record { locals = f.locals; left = drop f.next body; world = w; events = e }
+-- the machine's frame that a frame of the code stands for
+abbrev pub caller_of : CUnit → Waiting → Caller
+caller_of u c = record { function = c.function; locals = c.locals; left = drop c.next (body_of u c.function); target = c.target }
 
-abbrev pub machine_state : CUnit → Frame → Surroundings → List Event → State
-machine_state u f w e = body_state u.statements f w e
+-- the machine's state that a stack of the code stands for; the code keeps the last frame that waits at the end of its list
+abbrev pub callers_of : CUnit → List Waiting → List Caller
+callers_of u [] = []
+callers_of u (c ∷ cs) = callers_of u cs ++ caller_of u c ∷ []
 
--- the unit is well formed, and the frame has its variables and goes on at one of its statements
-pub record Stands (u : CUnit) (f : Frame) : Type 0 where
+abbrev pub machine_state : CUnit → Stack → Surroundings → List Event → State
+machine_state u s w e = record { function = s.function; locals = s.locals; left = drop s.next (body_of u s.function); callers = callers_of u s.callers; world = w; events = e }
+
+-- the frame has the variables of a function of the unit, and goes on at one of its statements
+pub record StandsAt (u : CUnit) (function : ℕ) (locals : Locals) (next : ℕ) : Type 0 where
+  pub it : CFunction
+  pub is : slice_get u.functions function ≡ Some it
+  pub variables : length locals ≡ variables_of it
+  pub here : next < length it.statements
+
+-- a frame that waits has the variable to which the value goes
+pub record Waits (u : CUnit) (c : Waiting) : Type 0 where
+  pub stands : StandsAt u c.function c.locals c.next
+  pub target : c.target < length c.locals
+
+-- the unit is well formed, and each frame stands at one of its statements
+pub record Stands (u : CUnit) (s : Stack) : Type 0 where
   pub well_formed : IsWellFormed u
-  pub locals : length f.locals ≡ u.locals
-  pub here : f.next < length u.statements
-  pub declared : AllByRecursion (IsStatement u.locals (length (labels_of u.statements))) (drop f.next u.statements)
-  pub returns : EndsWell (drop f.next u.statements)
+  pub runs : StandsAt u s.function s.locals s.next
+  pub waits : AllByRecursion (Waits u) s.callers
 
--- the move adds one event
-abbrev pub Notes : Move State → List Event → Type 0
-Notes (Goes s) t = (e : Event) × (s.events ≡ t ++ e ∷ [])
-Notes (Ends end) t = ⊥
+-- the move adds one event, or one frame
+abbrev pub Takes : Move State → State → Type 0
+Takes (Goes t) s = ((e : Event) × (t.events ≡ s.events ++ e ∷ [])) ⊎ ((c : Caller) × (t.callers ≡ c ∷ s.callers))
+Takes (Ends end) s = ⊥
 
--- What one step by code has to do with a move of the machine: it goes to the new state, or to an end that leaves all as it was. Want of memory comes only where the move would add an event, and leaves all as it was, too.
-abbrev pub IsMove : StepOut → Move State → State → Frame → Frame → List Event → List Event → Type 0
-IsMove outs.Going move s' f f' t t' = move ≡ Goes s'
-IsMove (outs.Returned i) move s' f f' t t' = (move ≡ Ends (Returned i)) × (f' ≡ f) × (t' ≡ t)
-IsMove (outs.Stuck op) move s' f f' t t' = (move ≡ Ends (Stuck op)) × (f' ≡ f) × (t' ≡ t)
-IsMove outs.NoMemory move s' f f' t t' = Notes move t × (f' ≡ f) × (t' ≡ t)
+-- the code's state, world and events are as they were
+abbrev pub Unmoved : Stack → Stack → Surroundings → Surroundings → List Event → List Event → Type 0
+Unmoved s s' w w' e e' = (s' ≡ s) × (w' ≡ w) × (e' ≡ e)
 
--- a jump by code, with no event
-abbrev pub Jumps : StepOut → List Statement → ℕ → Frame → Frame → Type 0
-Jumps out body n f f' = (w : Surroundings) (e : List Event) → IsMove out (jump (body_state body f w e) (after_label n body)) (body_state body f' w e) f f' e e
-
--- one statement of a body by code
-abbrev pub Performs : StepOut → List Statement → Statement → Frame → Frame → List Event → List Event → Type 0
-Performs out body t f f' e e' = (w : Surroundings) → IsMove out (perform body (body_state body f w e) t (drop (f.next + 1) body)) (body_state body f' w e') f f' e e'
+-- What one step by code has to do with a move of the machine: it goes to the new state, or to an end that leaves all as it
+-- was. Want of memory comes only where the move would add an event or a frame, and leaves all as it was, too.
+abbrev pub IsMove : StepOut → Move State → CUnit → Stack → Stack → Surroundings → Surroundings → List Event → List Event → Type 0
+IsMove outs.Going move u s s' w w' e e' = move ≡ Goes (machine_state u s' w' e')
+IsMove (outs.Returned i) move u s s' w w' e e' = (move ≡ Ends (Returned i)) × Unmoved s s' w w' e e'
+IsMove (outs.Stuck op) move u s s' w w' e e' = (move ≡ Ends (Stuck op)) × Unmoved s s' w w' e e'
+IsMove outs.NoMemory move u s s' w w' e e' = Takes move (machine_state u s w e) × Unmoved s s' w w' e e'
 
 -- the code's step is the machine's
-abbrev pub Steps : StepOut → CUnit → Frame → Frame → Surroundings → List Event → List Event → Type 0
-Steps out u f f' w e e' = IsMove out ((machine u).step (machine_state u f w e)) (machine_state u f' w e') f f' e e'
+abbrev pub Steps : StepOut → CUnit → Stack → Stack → Surroundings → Surroundings → List Event → List Event → Type 0
+Steps out u s s' w w' e e' = IsMove out ((machine u).step (machine_state u s w e)) u s s' w w' e e'
+
+-- ---- the parts of a step by code
+
+-- a frame that waits has the variable to which the value goes
+abbrev pub HasTarget : Waiting → Type 0
+HasTarget c = c.target < length c.locals
+
+-- the statement is the next one of the function that runs
+abbrev pub IsNext : CUnit → Stack → Statement → Type 0
+IsNext u s t = slice_get (body_of u s.function) s.next ≡ Some t
+
+-- the statement names variables of the frame alone
+abbrev pub NamesOwn : Locals → Statement → Type 0
+NamesOwn locals t = (labels : ℕ) × (functions : List ℕ) × IsStatement (record { variables = length locals; labels = labels; functions = functions }) t
+
+-- the code's performance of a statement is the machine's
+abbrev pub Performs : StepOut → CUnit → Statement → Stack → Stack → Surroundings → Surroundings → List Event → List Event → Type 0
+Performs out u t s s' w w' e e' = IsMove out (perform u (machine_state u s w e) t (drop (s.next + 1) (body_of u s.function))) u s s' w w' e e'
+
+-- the same of a statement that neither reads nor writes a byte
+abbrev pub PerformsQuietly : StepOut → CUnit → Statement → Stack → Stack → Type 0
+PerformsQuietly out u t s s' = (w : Surroundings) (e : List Event) → Performs out u t s s' w w e e
+
+-- the same of one that names nothing of its unit
+abbrev pub PerformsAnywhere : StepOut → Statement → Stack → Stack → Type 0
+PerformsAnywhere out t s s' = (u : CUnit) → PerformsQuietly out u t s s'
+
+-- the same of one that reads a byte, in each unit
+abbrev pub Reads : StepOut → ℕ → Stack → Stack → Surroundings → Surroundings → List Event → List Event → Type 0
+Reads out k s s' w w' e e' = (u : CUnit) → Performs out u (statements.Read k) s s' w w' e e'
+
+-- the same of one that writes a byte, in each unit and world
+abbrev pub Writes : StepOut → ℕ → Atom → Stack → Stack → List Event → List Event → Type 0
+Writes out k a s s' e e' = (u : CUnit) (w : Surroundings) → Performs out u (statements.Write k a) s s' w w e e'
+
+-- a jump by code to a label of the function that runs
+abbrev pub Jumps : StepOut → CUnit → ℕ → Stack → Stack → Type 0
+Jumps out u n s s' = (w : Surroundings) (e : List Event) → IsMove out (jump (machine_state u s w e) (after_label n (body_of u s.function))) u s s' w w e e
+
+-- the end of a call by code, in each unit
+abbrev pub Leaves : StepOut → ℤ → Stack → Stack → Type 0
+Leaves out i s s' = (u : CUnit) (w : Surroundings) (e : List Event) → IsMove out (leave (machine_state u s w e) (callers_of u s.callers) i) u s s' w w e e

@@ -1,30 +1,37 @@
 //! The machine that runs a unit.
 
-ghost use Rattle.std.specs.Prelude.{◌≡◌, ℕ, ◌+◌, ◌<◌, ◌^◌, IfOk, MatchOption, Some, None, length, drop, slice_set};
-ghost use Rattle.ps_base.specs.Numbers.{fit, byte_of};
-ghost use Rattle.c_meaning.specs.Machine.{atom_value, result_of, after_label, is_label};
-ghost use Rattle.c_meaning.specs.WellFormed.{IsStatement, IsWellFormed};
-ghost use Rattle.c_meaning.specs.Steps.{Stands, starts_at, Jumps, Performs, Steps};
+ghost use Rattle.std.specs.Prelude.{◌≡◌, ◌+◌, ◌<◌, ◌^◌, length, slice_get, Some, IfOk};
+ghost use Rattle.std.specs.List.{AllByRecursion};
+ghost use Rattle.c_ast.specs.WellFormed.{IsWellFormed};
+ghost use Rattle.c_meaning.specs.Steps.{Stands, starts_at, HasTarget, NamesOwn, Performs, Steps};
 
-use crate::unit::{Atom, BinaryOperator, CUnit, Statement};
-use ps_base::{Event, Events, Items, NoMemory, Op, World};
+use crate::perform::{
+    body, perform_call, perform_goto, perform_if_goto, perform_label, perform_move,
+    perform_operation, perform_read, perform_return, perform_write,
+};
+use crate::stack::Waiting;
+use c_ast::{CUnit, Statement};
+use ps_base::{Events, Items, NoMemory, Op, World};
 use std::alloc::Global;
 use std::marker::Model;
 
-/// The state of a run between two statements. Contracts see the variables, each with its value where it was assigned, and
-/// the place of the next statement.
+/// The state of a run between two statements. Contracts see the function that runs, its variables, each with its value where
+/// it was assigned, the place of its next statement, and the frames that wait.
 #[derive(Debug, Drop)]
 pub struct CState {
-    locals: Items<Option<i64>>,
-    next: usize,
+    pub(crate) alloc: Global,
+    pub(crate) function: u32,
+    pub(crate) locals: Items<Option<i64>>,
+    pub(crate) next: usize,
+    pub(crate) callers: Vec<Waiting>,
 }
 
 impl Model for CState {
-    ghost use Rattle.c_meaning.specs.Machine.{Frame};
+    ghost use Rattle.c_meaning.specs.Stack.{Stack};
 
-    ghost Value = { Frame };
+    ghost Value = { Stack };
 
-    ghost view = { λ s. record { locals = s.locals; next = s.next } };
+    ghost view = { λ s. record { function = s.function; locals = s.locals; next = s.next; callers = s.callers.items } };
 }
 
 /// What a step did.
@@ -32,17 +39,18 @@ impl Model for CState {
 pub enum StepOut {
     /// The statement was performed, and the run goes on.
     Going,
-    /// The function returned this.
+    /// The first function returned this.
     Returned(i64),
     /// The statement has no meaning in this state: `Unset` where it reads a variable that was never assigned,
     /// `Overflow` where its result has no 64 bits, and `Byte` where it writes what is no byte.
     Stuck(Op),
-    /// Memory for the list of events ran out, at a statement that would write a byte.
+    /// Memory for the list of events or for a frame ran out, at a statement that would read or write a byte, or call a
+    /// function.
     NoMemory,
 }
 
 impl CState {
-    /// The state before the first statement, where no variable is set. The unit must be well formed.
+    /// The state before the first statement of the first function, where no variable is set. The unit must be well formed.
     ///
     /// # Errors
     ///
@@ -52,176 +60,69 @@ impl CState {
         ensures first { IfOk result (λ state. state ≡ starts_at unit.now) }
         ensures stands { IfOk result (λ state. Stands unit.now state) }
     {
-        let locals = vec![in alloc; None; unit.locals as usize]?;
+        let unset = match unit.functions.get(0) {
+            Some(function) => function.locals,
+            None => 0,
+        };
+        let locals = vec![in alloc; None; unset as usize]?;
         Ok(CState {
+            alloc,
+            function: 0,
             locals: Items::from_vec(locals),
             next: 0,
+            callers: Vec::new(alloc),
         })
     }
 }
 
-// What an atom stands for, where it was assigned.
-fn value_of(locals: &[Option<i64>], atom: Atom) -> Option<i64>
-    ensures { result ≡ atom_value locals.now atom }
+// The statement at a place. The place behind it has 64 bits, since a list has fewer items than memory has addresses.
+fn statement_at(statements: &[Statement], place: usize) -> &Statement
+    requires { place < length statements.now }
+    ensures statement { slice_get statements.now place ≡ Some result.now }
+    ensures next { place + 1 < 2 ^ 64 }
 {
-    match atom {
-        Atom::Variable(k) => {
-            if (k as usize) < locals.len() {
-                locals[k as usize]
-            } else {
-                None
-            }
-        }
-        Atom::Integer(i) => Some(i),
-    }
+    &statements[place]
 }
 
-// The result of an operator, where it has 64 bits.
-fn operate(operator: BinaryOperator, i: i64, j: i64) -> Option<i64>
-    ensures { result ≡ fit (result_of operator i j) }
-{
-    match operator {
-        BinaryOperator::Add => i.checked_add(j),
-        BinaryOperator::Subtract => i.checked_sub(j),
-        BinaryOperator::Multiply => i.checked_mul(j),
-        BinaryOperator::Less => Some(if i < j { 1 } else { 0 }),
-    }
-}
-
-// The integer, where it is a byte.
-fn byte(i: i64) -> Option<i64>
-    ensures { result ≡ byte_of i }
-{
-    if i >= 0 && i < 256 { Some(i) } else { None }
-}
-
-// The place behind a label.
-fn behind_label(statements: &[Statement], label: u32) -> Option<usize>
-    ensures { MatchOption result (after_label label statements.now ≡ None) (λ place. after_label label statements.now ≡ Some (drop place statements.now)) }
-{
-    for (i, statement) in statements.iter().enumerate() {
-        if is_label(*statement, label) {
-            return Some(i + 1);
-        }
-    }
-    None
-}
-
-fn is_label(statement: Statement, label: u32) -> bool
-    ensures { result ≡ is_label label statement }
-{
-    match statement {
-        Statement::Label(number) => number == label,
-        Statement::Move(_, _) => false,
-        Statement::Operation(_, _, _, _) => false,
-        Statement::Write(_, _) => false,
-        Statement::IfGoto(_, _) => false,
-        Statement::Goto(_) => false,
-        Statement::Return(_) => false,
-    }
-}
-
-// Goes on behind a label.
-fn jump(statements: &[Statement], state: &mut CState, label: u32) -> StepOut
-    ensures { Jumps result statements.now label state.old state.new }
-{
-    match behind_label(statements, label) {
-        Some(place) => {
-            state.next = place;
-            StepOut::Going
-        }
-        None => StepOut::Stuck(Op::Unset),
-    }
-}
-
-// Assigns a variable, and goes on with the next statement.
-fn assign(state: &mut CState, variable: u32, value: i64)
-    requires declared { variable < length state.old.locals }
-    requires next { state.old.next + 1 < 2 ^ 64 }
-    ensures { state.new ≡ record { locals = slice_set state.old.locals variable (Some value); next = state.old.next + 1 } }
-{
-    state.locals.set(variable as usize, Some(value));
-    state.next += 1;
-}
-
-// Performs one statement.
+// Performs one statement of the function that runs.
 fn perform(
-    statements: &[Statement],
+    unit: &CUnit,
     state: &mut CState,
+    world: &mut World,
     events: &mut Events,
-    statement: Statement,
+    statement: &Statement,
 ) -> StepOut
-    requires declared { (labels : ℕ) × IsStatement (length state.old.locals) labels statement }
+    requires declared { NamesOwn state.old.locals statement.now }
     requires next { state.old.next + 1 < 2 ^ 64 }
-    ensures { Performs result statements.now statement state.old state.new events.old events.new }
+    requires targets { AllByRecursion HasTarget state.old.callers }
+    ensures { Performs result unit.now statement.now state.old state.new world.old world.new events.old events.new }
 {
     match statement {
-        Statement::Move(k, a) => {
-            let Some(i) = value_of(state.locals.as_slice(), a) else {
-                return StepOut::Stuck(Op::Unset);
-            };
-            assign(state, k, i);
-            StepOut::Going
+        Statement::Move(variable, atom) => perform_move(state, *variable, *atom),
+        Statement::Operation(variable, left, operator, right) => {
+            perform_operation(state, *variable, *left, *operator, *right)
         }
-        Statement::Operation(k, a, operator, b) => {
-            let Some(i) = value_of(state.locals.as_slice(), a) else {
-                return StepOut::Stuck(Op::Unset);
-            };
-            let Some(j) = value_of(state.locals.as_slice(), b) else {
-                return StepOut::Stuck(Op::Unset);
-            };
-            let Some(n) = operate(operator, i, j) else {
-                return StepOut::Stuck(Op::Overflow);
-            };
-            assign(state, k, n);
-            StepOut::Going
+        Statement::Read(variable) => perform_read(state, world, events, *variable),
+        Statement::Write(variable, atom) => perform_write(state, events, *variable, *atom),
+        Statement::Call(target, function, arguments) => {
+            perform_call(unit, state, *target, *function, arguments.as_slice())
         }
-        Statement::Write(k, a) => {
-            let Some(i) = value_of(state.locals.as_slice(), a) else {
-                return StepOut::Stuck(Op::Unset);
-            };
-            let Some(b) = byte(i) else {
-                return StepOut::Stuck(Op::Byte);
-            };
-            if events.push(Event::Output(b)).is_err() {
-                return StepOut::NoMemory;
-            }
-            assign(state, k, 0);
-            StepOut::Going
-        }
-        Statement::IfGoto(a, label) => {
-            let Some(i) = value_of(state.locals.as_slice(), a) else {
-                return StepOut::Stuck(Op::Unset);
-            };
-            if i != 0 {
-                return jump(statements, state, label);
-            }
-            state.next += 1;
-            StepOut::Going
-        }
-        Statement::Goto(label) => jump(statements, state, label),
-        Statement::Label(_) => {
-            state.next += 1;
-            StepOut::Going
-        }
-        Statement::Return(a) => match value_of(state.locals.as_slice(), a) {
-            None => StepOut::Stuck(Op::Unset),
-            Some(i) => StepOut::Returned(i),
-        },
+        Statement::IfGoto(atom, label) => perform_if_goto(unit, state, *atom, *label),
+        Statement::Goto(label) => perform_goto(unit, state, *label),
+        Statement::Label(label) => perform_label(state, *label),
+        Statement::Return(atom) => perform_return(state, *atom),
     }
 }
 
 /// Performs one statement of the unit that the state was started for.
 ///
-/// `Returned`, `Stuck` and `NoMemory` leave the state and the events as they were, so that a further call answers the same,
-/// or goes on once there is memory. The world is left as it was.
+/// `Returned`, `Stuck` and `NoMemory` leave the state, the world and the events as they were, so that a further call answers
+/// the same, or goes on once there is memory.
 pub fn step(unit: &CUnit, state: &mut CState, world: &mut World, events: &mut Events) -> StepOut
     requires { Stands unit.now state.old }
-    ensures steps { Steps result unit.now state.old state.new world.new events.old events.new }
-    ensures world { world.new ≡ world.old }
+    ensures steps { Steps result unit.now state.old state.new world.old world.new events.old events.new }
     ensures stands { Stands unit.now state.new }
 {
-    let statements = unit.statements.as_slice();
-    let statement = statements[state.next];
-    perform(statements, state, events, statement)
+    let statement = statement_at(body(unit, state.function), state.next);
+    perform(unit, state, world, events, statement)
 }

@@ -1,54 +1,71 @@
 -- The laws of the source's runs.
-use Rattle.std.proofs.Common.{◌≡◌, ℕ, ℤ, zero, suc, ◌+◌, ◌-◌, ◌≤◌, List, ◌∷◌, refl, sym, ap, ◌∙◌, subst, arith}
-use Rattle.std.specs.Prelude.{◌≢◌, [], ◌+ℤ◌}
-use Rattle.ps_base.specs.Outcome.{Outcome, End, Returned, Running, Undefined, Stuck, Wrong, StoppedAtCells, Begins, IsSound}
-use Rattle.ps_base.specs.Agree.{Grows, KeepsWhatItHas}
-use Rattle.ps_base.specs.Numbers.{fit}
-use Rattle.ps_base.specs.Worlds.{Surroundings}
-use Rattle.ps_base.proofs.Fronts.{begins_self, begins_eq}
+use Rattle.std.proofs.Common.{◌≡◌, ℕ, ℤ, zero, suc, ◌+◌, [], refl, sym, ap, subst, arith}
+use Rattle.ps_base.specs.Outcome.{Outcome, Returned, Running, Undefined, Stuck, Wrong, StoppedAtCells, Begins, IsSound}
+use Rattle.ps_base.specs.Agree.{Grows}
+use Rattle.ps_base.proofs.Fronts.{begins_eq}
 use Rattle.ps_base.proofs.Following.{growing_keeps}
-use Rattle.ps_meaning.specs.declared.expr.Expr.{Expr}
-use Rattle.ps_meaning.specs.declared.expr.Expr.TheOpen.{Expr-F}
-use Rattle.ps_meaning.specs.declared.expr.Expr.TheVariants.{Integer, Operation, If}
-use Rattle.ps_meaning.specs.declared.expr.Operator.{Operator}
-use Rattle.ps_meaning.specs.declared.expr.Program.{Program}
-use Rattle.ps_meaning.specs.Run.{State, Step, Goes, Stops, Run, ◌>>=◌, pure, known}
-use Rattle.ps_meaning.specs.Meaning.{meaning_of, eval, write, write_all, main_call, outcome, Source}
-use Rattle.ps_meaning.specs.Laws.{LargerBoundKeeps, SourceIsSound}
-use Rattle.ps_meaning.proofs.Trees.{induction, fold-integer, fold-operation, fold-if}
-use Rattle.ps_meaning.proofs.Longer.{events_of, more, Extends, Longer, pure_longer, known_longer, note_longer, either_longer, at_depth_longer, take_call_longer, then_longer, SoundStep, Sound, pure_sound, known_sound, note_sound, either_sound, at_depth_sound, take_call_sound, then_sound}
+use Rattle.ps_meaning.specs.declared.program.Program.{Program}
+use Rattle.ps_meaning.specs.Run.{Step, Goes, Stops, stop}
+use Rattle.ps_meaning.specs.Meaning.{Enter, entering, enters, outcome, start, Source}
+use Rattle.ps_meaning.specs.Laws.{CallsEnterProcedures, LargerBoundKeeps, ProgramIsSound}
+use Rattle.ps_meaning.proofs.Related.{Enters, body_related}
+use Rattle.ps_meaning.proofs.Same.{Same, known_same, at_depth_same, take_call_same, then_same, looser, same_keeps}
+use Rattle.ps_meaning.proofs.Sound.{SoundStep, Any}
+use Rattle.ps_meaning.proofs.Soundness.{enters_sound}
+use Rattle.ps_meaning.proofs.Longer.{longer_keeps, events_of, Extends, Longer, stop_longer, running_longer, known_longer, at_depth_longer, take_call_longer, then_longer}
 
-eval_longer : (d : ℕ) (e : Expr) → Longer d (eval e) (eval e)
-eval_longer d = induction (λ e. Longer d (eval e) (eval e))
-    (λ i. subst (λ m. Longer d m m) (sym (fold-integer meaning_of i)) (pure_longer d i))
-    (λ o a b ha hb. subst (λ m. Longer d m m) (sym (fold-operation meaning_of o a b)) (then_longer d ha (λ x. then_longer d hb (λ y. known_longer d _ _))))
-    (λ a b c e ha hb hc he. subst (λ m. Longer d m m) (sym (fold-if meaning_of a b c e)) (then_longer d ha (λ x. then_longer d hb (λ y. either_longer d _ hc he))))
+-- ---- a larger bound
 
-write_longer : (d : ℕ) (e : Expr) → Longer d (write e) (write e)
-write_longer d e = then_longer d (eval_longer d e) (λ x. then_longer d (known_longer d _ _) (λ b. note_longer d _))
+-- entering a procedure by g does with d calls more what entering by f does
+abbrev Longers : ℕ → Enter → Enter → Type 0
+Longers d = Enters (λ A p q. Longer d p q)
 
-writes_longer : (d : ℕ) (es : List Expr) → Longer d (write_all es) (write_all es)
-writes_longer d [] = pure_longer d tt
-writes_longer d (e ∷ es) = then_longer d (write_longer d e) (λ u. writes_longer d es)
+entering_longer : (p : Program) (d : ℕ) (f g : Enter) → Longers d f g → Longers d (entering p f) (entering p g)
+entering_longer p d f g enter = record {
+  by = λ depth n vs.
+      then_longer d (known_longer d _ _) (λ q. then_longer d (take_call_longer d) (λ u. then_longer d (at_depth_longer d depth) (λ v. body_related (λ A p q. Longer d p q) (longer_keeps d) f g enter depth vs q)));
+}
 
-main_longer : (d : ℕ) (p : Program) → Longer d (main_call p) (main_call p)
-main_longer d p = then_longer d (take_call_longer d) (λ u. then_longer d (at_depth_longer d 0) (λ v. then_longer d (writes_longer d p.writes) (λ t. eval_longer d p.value)))
+-- no procedure may be entered
+abbrev none : Enter
+none depth n vs = stop Running
 
-eval_sound : (e : Expr) → Sound (eval e)
-eval_sound = induction (λ e. Sound (eval e))
-    (λ i. subst Sound (sym (fold-integer meaning_of i)) (pure_sound i))
-    (λ o a b ha hb. subst Sound (sym (fold-operation meaning_of o a b)) (then_sound ha (λ x. then_sound hb (λ y. known_sound _ _ tt))))
-    (λ a b c d ha hb hc hd. subst Sound (sym (fold-if meaning_of a b c d)) (then_sound ha (λ x. then_sound hb (λ y. either_sound _ hc hd))))
+none_longer : (d : ℕ) → Longers d none none
+none_longer d = record { by = λ depth n vs. stop_longer d Running }
 
-write_sound : (e : Expr) → Sound (write e)
-write_sound e = then_sound (eval_sound e) (λ x. then_sound (known_sound _ _ tt) (λ b. note_sound _))
+-- whatever enters procedures and only adds events is longer than what enters none
+after_none : (d : ℕ) (f g : Enter) → Longers d f g → Longers d none g
+after_none d f g l = record { by = λ depth n vs. running_longer d (l.by depth n vs) }
 
-writes_sound : (es : List Expr) → Sound (write_all es)
-writes_sound [] = pure_sound tt
-writes_sound (e ∷ es) = then_sound (write_sound e) (λ u. writes_sound es)
+enters_longer : (p : Program) (n : ℕ) → Longers 1 (enters p n) (enters p (suc n))
+enters_longer p zero = entering_longer p 1 none (enters p zero) (after_none 1 _ _ (entering_longer p 1 none none (none_longer 1)))
+enters_longer p (suc n) = entering_longer p 1 (enters p n) (enters p (suc n)) (enters_longer p n)
 
-main_sound : (p : Program) → Sound (main_call p)
-main_sound p = then_sound take_call_sound (λ u. then_sound (at_depth_sound 0) (λ v. then_sound (writes_sound p.writes) (λ t. eval_sound p.value)))
+-- ---- the bound on nesting
+
+-- entering a procedure by g does what entering by f does, where fewer than k procedures may still be entered
+abbrev Sames : ℕ → Enter → Enter → Type 0
+Sames k = Enters (Same k k)
+
+entering_same : (p : Program) (k : ℕ) (f g : Enter) → Sames k f g → Sames (suc k) (entering p f) (entering p g)
+entering_same p k f g enter = record {
+  by = λ depth n vs.
+      then_same (suc k) (suc k) (suc k) (known_same (suc k) _ _) (λ q. looser (suc k) k (suc k) (omega arith)
+      (then_same (suc k) k k (take_call_same k) (λ u. then_same k k k (at_depth_same k depth) (λ v. body_related (Same k k) (same_keeps k) f g enter depth vs q))));
+}
+
+-- no state has fewer than none left
+same_at_none : (f g : Enter) → Sames 0 f g
+same_at_none f g = record { by = λ depth n vs. record { is = λ s few. absurd (omega arith); leaves = λ s few. absurd (omega arith) } }
+
+enters_same : (p : Program) (n : ℕ) → Sames (suc n) (enters p n) (enters p (suc n))
+enters_same p zero = entering_same p 0 none (enters p zero) (same_at_none none (enters p zero))
+enters_same p (suc n) = entering_same p (suc n) (enters p n) (enters p (suc n)) (enters_same p n)
+
+pub unrolled : CallsEnterProcedures
+unrolled p n depth f vs s few = ((enters_same p n).by depth f vs).is s (omega arith)
+
+-- ---- outcomes
 
 events_shown : (r : Step ℤ) → (outcome r).events ≡ events_of r
 events_shown (Goes i s) = refl
@@ -68,11 +85,15 @@ grown d (Stops (Wrong at) s) r' e = over _ _ (ap outcome e)
 grown d (Stops StoppedAtCells s) r' e = over _ _ (ap outcome e)
 
 pub larger_bound : LargerBoundKeeps
-larger_bound p w = growing_keeps (Source p w) (λ n. grown 1 _ _ ((main_longer 1 p).extends (record { calls = n; events = []; deepest = 0 })))
+larger_bound p w = growing_keeps (Source p w) (λ n.
+    let one : suc n ≡ n + 1 = omega arith in
+    subst (λ m. Grows (Source p w n) (outcome (enters p m 0 0 [] (start (n + 1) w)))) one (grown 1 _ _ (((enters_longer p n).by 0 0 []).extends (start n w))))
 
-shown_sound : (r : Step ℤ) → SoundStep r → IsSound (outcome r).end
+-- ---- no end is Wrong or out of cells
+
+shown_sound : (r : Step ℤ) → SoundStep Any r → IsSound (outcome r).end
 shown_sound (Goes i s) h = tt
 shown_sound (Stops e s) h = h
 
-pub sound : SourceIsSound
-sound p w n = shown_sound (main_call p (record { calls = n; events = []; deepest = 0 })) ((main_sound p).ends (record { calls = n; events = []; deepest = 0 }))
+pub sound : ProgramIsSound
+sound p w is_valid n = shown_sound _ (((enters_sound p is_valid n).by 0 0 [] is_valid.main).ends (start n w))

@@ -1,4 +1,12 @@
 pub mod Trees
-mod Longer
+pub mod Lists
+pub mod Order
+pub mod Related
+pub mod Longer
+pub mod Same
+pub mod Tests
+pub mod Sound
+pub mod Soundness
 pub mod Bounds
-pub mod Grammar
+pub mod Fine
+pub mod Programs

@@ -1,12 +1,13 @@
 -- What a part of a run does with more calls left.
-use Rattle.std.proofs.Common.{◌≡◌, ℕ, zero, suc, ◌+◌, Bool, true, false, List, [], ◌∷◌, Option, Some, None, refl, sym, ap, ◌∙◌, subst, arith}
+use Rattle.std.proofs.Common.{◌≡◌, ℕ, zero, suc, ◌+◌, List, [], ◌∷◌, Option, Some, None, refl, sym, ap, subst, arith}
+use Rattle.std.specs.Prelude.{Bool, true, false, if◌then◌else◌}
 use Rattle.ps_base.specs.declared.world.Event.{Event}
-use Rattle.ps_base.specs.declared.world.Op.{Op}
-use Rattle.ps_base.specs.declared.faults.Place.{Place}
-use Rattle.ps_base.specs.Outcome.{End, Returned, Running, Undefined, Stuck, Wrong, StoppedAtCells, Begins, IsSound}
+use Rattle.ps_base.specs.declared.world.Event.TheVariants.{Input}
+use Rattle.ps_base.specs.Outcome.{End, Returned, Running, Undefined, Stuck, Wrong, StoppedAtCells, Begins}
+use Rattle.ps_base.specs.Worlds.{next_byte}
 use Rattle.ps_base.proofs.Fronts.{begins_self, begins_trans}
-use Rattle.ps_meaning.specs.Run.{State, Step, Goes, Stops, Run, and_then, ◌>>=◌, pure, stop, known, take_one, take_call, at_depth, note}
-use Rattle.ps_meaning.specs.Meaning.{either}
+use Rattle.ps_meaning.proofs.Related.{Keeps}
+use Rattle.ps_meaning.specs.Run.{State, Step, Goes, Stops, Run, and_then, ◌>>=◌, pure, stop, known, take_one, take_call, at_depth, note, read_byte}
 
 abbrev pub events_of : {A : Type 0} → Step A → List Event
 events_of (Goes a s) = s.events
@@ -25,12 +26,12 @@ Extends d (Stops (Stuck op) s) r = r ≡ Stops (Stuck op) (more d s)
 Extends d (Stops (Wrong at) s) r = r ≡ Stops (Wrong at) (more d s)
 Extends d (Stops StoppedAtCells s) r = r ≡ Stops StoppedAtCells (more d s)
 
--- q does with d calls more what p does
+-- q does with d calls more what p does, and keeps the events before it
 pub record Longer {A : Type 0} (d : ℕ) (p q : Run A) : Type 0 where
   pub extends : (s : State) → Extends d (p s) (q (more d s))
   pub grows : (s : State) → Begins s.events (events_of (q s))
 
-pub pure_longer : {A : Type 0} (d : ℕ) (a : A) → Longer d (pure a) (pure a)
+pure_longer : {A : Type 0} (d : ℕ) (a : A) → Longer d (pure a) (pure a)
 pure_longer d a = record { extends = λ s. refl; grows = λ s. begins_self s.events }
 
 pub stop_longer : {A : Type 0} (d : ℕ) (e : End) → Longer {A = A} d (stop e) (stop e)
@@ -44,6 +45,10 @@ stop_longer {A} d e = record { extends = λ s. one e s; grows = λ s. begins_sel
     one (Wrong at) s = refl
     one StoppedAtCells s = refl
 
+-- whatever only adds events is longer than what is Running at once
+pub running_longer : {A : Type 0} (d : ℕ) {p q : Run A} → Longer d p q → Longer d (stop Running) q
+running_longer d l = record { extends = λ s. l.grows (more d s); grows = l.grows }
+
 pub known_longer : {A : Type 0} (d : ℕ) (e : End) (o : Option A) → Longer d (known e o) (known e o)
 known_longer d e None = stop_longer d e
 known_longer d e (Some a) = pure_longer d a
@@ -51,12 +56,15 @@ known_longer d e (Some a) = pure_longer d a
 pub at_depth_longer : (d n : ℕ) → Longer d (at_depth n) (at_depth n)
 at_depth_longer d n = record { extends = λ s. refl; grows = λ s. begins_self s.events }
 
-pub note_longer : (d : ℕ) (e : Event) → Longer d (note e) (note e)
+note_longer : (d : ℕ) (e : Event) → Longer d (note e) (note e)
 note_longer d e = record { extends = λ s. refl; grows = λ s. record { rest = e ∷ []; is = refl } }
 
-pub either_longer : {A : Type 0} (d : ℕ) (b : Bool) {p q p' q' : Run A} → Longer d p p' → Longer d q q' → Longer d (either b p q) (either b p' q')
-either_longer d true h i = h
-either_longer d false h i = i
+read_longer : (d : ℕ) → Longer d read_byte read_byte
+read_longer d = record { extends = λ s. refl; grows = λ s. record { rest = Input (next_byte s.world.input) ∷ []; is = refl } }
+
+if_longer : {A : Type 0} (d : ℕ) (b : Bool) {p q p' q' : Run A} → Longer d p p' → Longer d q q' → Longer d (if b then p else q) (if b then p' else q')
+if_longer d true h i = h
+if_longer d false h i = i
 
 take_one_grows : (n : ℕ) (s : State) → Begins s.events (events_of (take_one n s))
 take_one_grows zero s = begins_self s.events
@@ -89,42 +97,12 @@ then_longer d {p} {q} {f} {g} l h = record {
   grows = λ s. begins_trans s.events (events_of (q s)) (events_of (and_then (q s) g)) (l.grows s) (then_grows d f g h (q s));
 }
 
--- ---- no part ends Wrong or out of cells
-
-abbrev pub SoundStep : {A : Type 0} → Step A → Type 0
-SoundStep (Goes a s) = Unit {0}
-SoundStep (Stops e s) = IsSound e
-
-pub record Sound {A : Type 0} (p : Run A) : Type 0 where
-  pub ends : (s : State) → SoundStep (p s)
-
-pub pure_sound : {A : Type 0} (a : A) → Sound (pure a)
-pure_sound a = record { ends = λ s. tt }
-
-pub known_sound : {A : Type 0} (e : End) (o : Option A) → IsSound e → Sound (known e o)
-known_sound e None h = record { ends = λ s. h }
-known_sound e (Some a) h = record { ends = λ s. tt }
-
-pub at_depth_sound : (n : ℕ) → Sound (at_depth n)
-at_depth_sound n = record { ends = λ s. tt }
-
-pub note_sound : (e : Event) → Sound (note e)
-note_sound e = record { ends = λ s. tt }
-
-pub either_sound : {A : Type 0} (b : Bool) {p q : Run A} → Sound p → Sound q → Sound (either b p q)
-either_sound true h i = h
-either_sound false h i = i
-
-take_one_sound : (n : ℕ) (s : State) → SoundStep (take_one n s)
-take_one_sound zero s = tt
-take_one_sound (suc n) s = tt
-
-pub take_call_sound : Sound take_call
-take_call_sound = record { ends = λ s. take_one_sound s.calls s }
-
-then_ends : {A B : Type 0} (f : A → Run B) → ((a : A) → Sound (f a)) → (r : Step A) → SoundStep r → SoundStep (and_then r f)
-then_ends f h (Goes a s) k = (h a).ends s
-then_ends f h (Stops e s) k = k
-
-pub then_sound : {A B : Type 0} {p : Run A} {f : A → Run B} → Sound p → ((a : A) → Sound (f a)) → Sound (p >>= f)
-then_sound {A} {B} {p} {f} l h = record { ends = λ s. then_ends f h (p s) (l.ends s) }
+pub longer_keeps : (d : ℕ) → Keeps (λ A p q. Longer d p q)
+longer_keeps d = record {
+  pures = λ a. pure_longer d a;
+  knows = λ e o. known_longer d e o;
+  notes = λ e. note_longer d e;
+  reads = read_longer d;
+  ifs = λ b h i. if_longer d b h i;
+  thens = λ l h. then_longer d l h;
+}

@@ -1,16 +1,29 @@
 -- Laws of the source's definitions.
-use Rattle.std.specs.Prelude.{◌≡◌, ℕ, List}
+use Rattle.std.specs.Prelude.{◌≡◌, ℕ, ℤ, ◌≤◌, List}
 use Rattle.ps_base.specs.Agree.{KeepsWhatItHas, IsSoundRun}
 use Rattle.ps_base.specs.Worlds.{Surroundings}
-use Rattle.ps_meaning.specs.declared.expr.Program.{Program}
-use Rattle.ps_meaning.specs.Text.{IsProgram}
-use Rattle.ps_meaning.specs.Meaning.{Source}
+use Rattle.ps_datum.specs.declared.datum.Datum.{Datum}
+use Rattle.ps_datum.specs.Weight.{weights}
+use Rattle.ps_meaning.specs.declared.program.Program.{Program}
+use Rattle.ps_meaning.specs.Forms.{IsProgram}
+use Rattle.ps_meaning.specs.Valid.{IsValid}
+use Rattle.ps_meaning.specs.Size.{program_size}
+use Rattle.ps_meaning.specs.Run.{State}
+use Rattle.ps_meaning.specs.Meaning.{entering, enters, Source}
+
+-- A call with no more calls left than the bound is entering the procedure, where calls are the same. So the bound on nesting
+-- is never met before the calls that are left.
+abbrev pub CallsEnterProcedures : Type 0
+CallsEnterProcedures = (p : Program) (n depth f : ℕ) (vs : List ℤ) (s : State) → s.calls ≤ n → enters p n depth f vs s ≡ entering p (enters p n) depth f vs s
 
 abbrev pub LargerBoundKeeps : Type 0
 LargerBoundKeeps = (p : Program) (w : Surroundings) → KeepsWhatItHas (Source p w)
 
-abbrev pub SourceIsSound : Type 0
-SourceIsSound = (p : Program) (w : Surroundings) → IsSoundRun (Source p w)
+abbrev pub ProgramIsSound : Type 0
+ProgramIsSound = (p : Program) (w : Surroundings) → IsValid p → IsSoundRun (Source p w)
 
-abbrev pub TextHasOneProgram : Type 0
-TextHasOneProgram = (text : List ℕ) (p q : Program) → IsProgram text p → IsProgram text q → p ≡ q
+abbrev pub ProgramIsValid : Type 0
+ProgramIsValid = (ds : List Datum) (p : Program) → IsProgram ds p → IsValid p × (program_size p ≤ weights ds)
+
+abbrev pub DataHaveOneProgram : Type 0
+DataHaveOneProgram = (ds : List Datum) (p q : Program) → IsProgram ds p → IsProgram ds q → p ≡ q

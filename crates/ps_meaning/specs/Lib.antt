@@ -1,4 +1,6 @@
-pub mod Text
+pub mod Forms
+pub mod Valid
+pub mod Size
 pub mod Run
 pub mod Meaning
 pub mod Laws

@@ -1,17 +1,21 @@
 -- What a program does (this project's own, after R5RS 4.1.3; the order of evaluation is fixed: from left to right).
-use Rattle.std.specs.Prelude.{ℕ, ℤ, ◌+ℤ◌, ◌-ℤ◌, ◌*ℤ◌, int_lt, Bool, true, false, List, [], ◌∷◌}
+use Rattle.std.specs.Prelude.{ℕ, zero, suc, ℤ, ◌+◌, ◌+ℤ◌, ◌-ℤ◌, ◌*ℤ◌, int_lt, Bool, if◌then◌else◌, nat_eq, List, [], ◌∷◌, length, Option, Some, None, slice_get}
+use Rattle.std.specs.Ordering.{int_eq}
 use Rattle.ps_base.specs.declared.faults.Place.{Place}
 use Rattle.ps_base.specs.declared.world.Op.TheVariants.{Overflow, Byte}
-use Rattle.ps_base.specs.Numbers.{fit, byte_of}
-use Rattle.ps_base.specs.Outcome.{Outcome, Outcomes, End, Returned, Running, Undefined}
-use Rattle.ps_base.specs.Worlds.{Surroundings}
-use Rattle.ps_meaning.specs.declared.expr.Expr.{Expr, fold-Expr}
-use Rattle.ps_meaning.specs.declared.expr.Expr.TheOpen.{Expr-F}
-use Rattle.ps_meaning.specs.declared.expr.Operator.{Operator}
-use Rattle.ps_meaning.specs.declared.expr.Operator.TheVariants as operators
-use Rattle.ps_meaning.specs.declared.expr.Program.{Program}
 use Rattle.ps_base.specs.declared.world.Event.TheVariants.{Output}
-use Rattle.ps_meaning.specs.Run.{State, Step, Goes, Stops, Run, ◌>>=◌, ◌>>◌, pure, known, take_call, at_depth, note}
+use Rattle.ps_base.specs.Numbers.{fit, byte_of}
+use Rattle.ps_base.specs.Outcome.{Outcome, Outcomes, Returned, Running, Undefined, Wrong}
+use Rattle.ps_base.specs.Worlds.{Surroundings}
+use Rattle.ps_meaning.specs.declared.program.Expr.{Expr, fold-Expr}
+use Rattle.ps_meaning.specs.declared.program.Expr.TheOpen.{Expr-F}
+use Rattle.ps_meaning.specs.declared.program.Operator.{Operator}
+use Rattle.ps_meaning.specs.declared.program.Operator.TheVariants as operators
+use Rattle.ps_meaning.specs.declared.program.Comparison.{Comparison}
+use Rattle.ps_meaning.specs.declared.program.Comparison.TheVariants as comparisons
+use Rattle.ps_meaning.specs.declared.program.Procedure.{Procedure}
+use Rattle.ps_meaning.specs.declared.program.Program.{Program}
+use Rattle.ps_meaning.specs.Run.{State, Step, Goes, Stops, Run, ◌>>=◌, ◌>>◌, pure, stop, known, take_call, at_depth, note, read_byte}
 
 -- Expressions do not keep their places: what is said of a place in the source is said of the place where the text begins.
 abbrev pub start_place : Place
@@ -23,50 +27,97 @@ result_of operators.Add x y = x +ℤ y
 result_of operators.Subtract x y = x -ℤ y
 result_of operators.Multiply x y = x *ℤ y
 
-abbrev pub either : {A : Type 0} → Bool → A → A → A
-either true a b = a
-either false a b = b
+abbrev pub holds : Comparison → ℤ → ℤ → Bool
+holds comparisons.Less x y = int_lt x y
+holds comparisons.Equal x y = int_eq x y
 
--- one node, where its parts' meanings stand for them
-abbrev pub meaning_of : Expr-F (Run ℤ) → Run ℤ
-meaning_of (Expr-F.Integer i) = pure i
-meaning_of (Expr-F.Operation o a b) = do
-  x ← a
-  y ← b
+-- what it does to enter a procedure: the depth of its body, its number, and the operands
+abbrev pub Enter : Type 0
+Enter = ℕ → ℕ → List ℤ → Run ℤ
+
+-- where an expression is evaluated: what a call does, the depth, and the values of the parameters
+pub record Context : Type 0 where
+  pub enter : Enter
+  pub depth : ℕ
+  pub arguments : List ℤ
+
+abbrev pub Meaning : Type 0
+Meaning = Context → Run ℤ
+
+-- the values of some parts, from left to right
+abbrev pub each : List Meaning → Context → Run (List ℤ)
+each [] c = pure []
+each (m ∷ ms) c = do
+  v ← m c
+  vs ← each ms c
+  pure (v ∷ vs)
+
+-- one node, where its parts' meanings stand for them; every call nests
+abbrev pub meaning_of : Expr-F Meaning → Meaning
+meaning_of (Expr-F.Integer i) c = pure i
+meaning_of (Expr-F.Parameter k) c = known (Wrong start_place) (slice_get c.arguments k)
+meaning_of (Expr-F.Operation o a b) c = do
+  x ← a c
+  y ← b c
   known (Undefined Overflow start_place) (fit (result_of o x y))
-meaning_of (Expr-F.If a b c d) = do
-  x ← a
-  y ← b
-  either (int_lt x y) c d
+meaning_of (Expr-F.If q a b t e) c = do
+  x ← a c
+  y ← b c
+  if holds q x y then t c else e c
+meaning_of (Expr-F.Call f es) c = do
+  vs ← each es c
+  c.enter (c.depth + 1) f vs
+meaning_of Expr-F.ReadByte c = read_byte
 
-abbrev pub eval : Expr → Run ℤ
-eval = fold-Expr (Run ℤ) meaning_of
+abbrev pub eval : Expr → Meaning
+eval = fold-Expr Meaning meaning_of
 
 -- (write-byte e)
-abbrev pub write : Expr → Run (Unit {0})
-write e = do
-  x ← eval e
+abbrev pub write : Expr → Context → Run (Unit {0})
+write e c = do
+  x ← eval e c
   b ← known (Undefined Byte start_place) (byte_of x)
   note (Output b)
 
-abbrev pub write_all : List Expr → Run (Unit {0})
-write_all [] = pure tt
-write_all (e ∷ es) = do
-  write e
-  write_all es
+abbrev pub write_all : List Expr → Context → Run (Unit {0})
+write_all [] c = pure tt
+write_all (e ∷ es) c = do
+  write e c
+  write_all es c
 
--- the call of main, whose body has depth 0
-abbrev pub main_call : Program → Run ℤ
-main_call p = do
+abbrev pub body : Procedure → Meaning
+body q c = do
+  write_all q.writes c
+  eval q.value c
+
+-- a procedure, where it has n parameters
+abbrev pub taking : ℕ → Option Procedure → Option Procedure
+taking n None = None
+taking n (Some q) = if nat_eq q.parameters n then Some q else None
+
+-- A procedure of the program is entered. It is Wrong where there is none of this number and number of parameters.
+abbrev pub entering : Program → Enter → Enter
+entering p enter d f vs = do
+  q ← known (Wrong start_place) (taking (length vs) (slice_get p.procedures f))
   take_call
-  at_depth 0
-  write_all p.writes
-  eval p.value
+  at_depth d
+  body q (record { enter = enter; depth = d; arguments = vs })
+
+-- The same, where procedures may be entered n + 1 deep. The calls that are left are counted by the state, and never more
+-- than these.
+abbrev pub enters : Program → ℕ → Enter
+enters p zero = entering p (λ d f vs. stop Running)
+enters p (suc n) = entering p (enters p n)
 
 abbrev pub outcome : Step ℤ → Outcome
 outcome (Goes i s) = record { events = s.events; depth = s.deepest; end = Returned i }
 outcome (Stops end s) = record { events = s.events; depth = s.deepest; end = end }
 
--- the run of a program in a world, where the bound is how many procedures may be entered, main included
+-- the state before the call of main
+abbrev pub start : ℕ → Surroundings → State
+start n w = record { calls = n; world = w; events = []; deepest = 0 }
+
+-- the run of a program in a world, where the bound is how many procedures may be entered, main included; the body of main
+-- has depth 0
 abbrev pub Source : Program → Surroundings → Outcomes
-Source p w n = outcome (main_call p (record { calls = n; events = []; deepest = 0 }))
+Source p w n = outcome (enters p n 0 0 [] (start n w))

@@ -1,11 +1,15 @@
 -- Parts of a run: what evaluating does to the state of a run, as a state monad with an end (this project's own).
-use Rattle.std.specs.Prelude.{ℕ, zero, suc, max, List, [], ◌∷◌, ◌++◌, Option, Some, None}
+use Rattle.std.specs.Prelude.{ℕ, ℤ, zero, suc, max, List, [], ◌∷◌, ◌++◌, Option, Some, None}
 use Rattle.ps_base.specs.declared.world.Event.{Event}
+use Rattle.ps_base.specs.declared.world.Event.TheVariants.{Input}
 use Rattle.ps_base.specs.Outcome.{End, Running}
+use Rattle.ps_base.specs.Worlds.{Surroundings, next_byte, rest_of}
 
 pub record State : Type 0 where
   -- how many procedures may still be entered
   pub calls : ℕ
+  -- the input and the grants that are left
+  pub world : Surroundings
   -- the operations so far
   pub events : List Event
   -- the greatest depth so far
@@ -58,3 +62,7 @@ at_depth d = λ s. Goes tt (record s { deepest = max s.deepest d })
 -- an operation that is seen from outside
 abbrev pub note : Event → Run (Unit {0})
 note e = λ s. Goes tt (record s { events = s.events ++ e ∷ [] })
+
+-- the next byte of the input is taken, or -1 at its end
+abbrev pub read_byte : Run ℤ
+read_byte = λ s. (let byte = next_byte s.world.input in Goes byte (record s { world = record s.world { input = rest_of s.world.input }; events = s.events ++ Input byte ∷ [] }))

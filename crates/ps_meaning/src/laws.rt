@@ -1,18 +1,29 @@
 //! Laws of the definitions. Each is the contract of a function that does nothing.
 
-ghost use Rattle.ps_meaning.specs.Laws.{LargerBoundKeeps, SourceIsSound, TextHasOneProgram};
+ghost use Rattle.ps_meaning.specs.Laws.{CallsEnterProcedures, DataHaveOneProgram, LargerBoundKeeps, ProgramIsSound, ProgramIsValid};
+
+/// A call with no more calls left than the bound does what entering its procedure does, where calls do the same: the bound on
+/// nesting is never met before the calls that are left.
+pub fn calls_enter_procedures()
+    ensures { CallsEnterProcedures }
+{}
 
 /// A larger bound keeps an outcome that is not Running, and extends the events of a Running one.
 pub fn larger_bound_keeps()
     ensures { LargerBoundKeeps }
 {}
 
-/// No run of a program is Wrong or stops at its cells.
-pub fn source_is_sound()
-    ensures { SourceIsSound }
+/// No run of a valid program is Wrong or stops at its cells.
+pub fn program_is_sound()
+    ensures { ProgramIsSound }
 {}
 
-/// A text is the text of at most one program.
-pub fn text_has_one_program()
-    ensures { TextHasOneProgram }
+/// A program of data is valid, and is no larger than the data.
+pub fn program_is_valid()
+    ensures { ProgramIsValid }
+{}
+
+/// Data are one program, whichever definition of `main` is taken out of its place.
+pub fn data_have_one_program()
+    ensures { DataHaveOneProgram }
 {}

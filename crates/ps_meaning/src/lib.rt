@@ -1,11 +1,14 @@
-//! The source language: its programs, which bytes are the text of one, and what a program does.
+//! The source language: its programs, which data are a program, and what a program does.
 //!
-//! Nothing here is run by the compiler. The crate holds the definitions that the compiler's contract speaks of, and
-//! functions whose contracts are laws of these definitions.
+//! Nothing here is run by the compiler but the trees. The crate holds the definitions that the compiler's contract speaks of,
+//! and functions whose contracts are laws of these definitions.
 #![tactic(auto)]
 
-mod expr;
 mod laws;
+mod program;
 
-pub use expr::{Expr, Operator, Program};
-pub use laws::{larger_bound_keeps, source_is_sound, text_has_one_program};
+pub use laws::{
+    calls_enter_procedures, data_have_one_program, larger_bound_keeps, program_is_sound,
+    program_is_valid,
+};
+pub use program::{Comparison, Expr, Keyword, Operator, Procedure, Program};

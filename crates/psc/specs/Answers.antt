@@ -7,9 +7,8 @@ use Rattle.ps_base.specs.declared.faults.Fault.TheVariants as faults
 use Rattle.ps_base.specs.declared.faults.Place.{Place}
 use Rattle.ps_edge.specs.SourceStates.{SourceState}
 use Rattle.ps_edge.specs.Sources.{Taking, IsSpent}
-use Rattle.ps_meaning.specs.declared.expr.Program.{Program}
-use Rattle.ps_meaning.specs.Text.{IsProgram}
-use Rattle.psc.specs.Headline.{Compiles}
+use Rattle.ps_meaning.specs.declared.program.Program.{Program}
+use Rattle.psc.specs.Headline.{IsProgramText, Compiles}
 use Rattle.psc.specs.Words.{words_fault}
 use Rattle.psc.specs.declared.answer.Answer.{Answer}
 use Rattle.psc.specs.declared.answer.Answer.TheVariants as answers
@@ -68,7 +67,7 @@ pub record IsNotBuilt (place : Place) (i i' : SourceState) (o o' : SinkState) : 
   pub is_start : place ≡ text_start
   pub text : List ℕ
   pub read : ReadsAll i i' text
-  pub none : (program : Program) → IsProgram text program → ⊥
+  pub none : (program : Program) → IsProgramText text program → ⊥
   pub unchanged : o' ≡ o
 
 -- memory ran out before the output was touched

@@ -1,18 +1,34 @@
 -- The headline: what it means that bytes written are a right translation of a text (this project's own).
 use Rattle.std.specs.Prelude.{ℕ, List}
-use Rattle.ps_base.specs.Agree.{Agree}
+use Rattle.ps_base.specs.Agree.{Agree, Shallow}
 use Rattle.ps_base.specs.Worlds.{Surroundings}
-use Rattle.ps_meaning.specs.declared.expr.Program.{Program}
-use Rattle.ps_meaning.specs.Text.{IsProgram}
+use Rattle.ps_datum.specs.declared.datum.Datum.{Datum}
+use Rattle.ps_read.specs.Reads.{Reads}
+use Rattle.ps_meaning.specs.declared.program.Program.{Program}
+use Rattle.ps_meaning.specs.Forms.{IsProgram}
 use Rattle.ps_meaning.specs.Meaning.{Source}
-use Rattle.c_meaning.specs.declared.unit.CUnit.{CUnit}
-use Rattle.c_meaning.specs.Text.{CText}
+use Rattle.c_ast.specs.declared.unit.CUnit.{CUnit}
+use Rattle.c_ast.specs.Text.{CText}
+use Rattle.c_ast.specs.WellFormed.{IsWellFormed}
 use Rattle.c_meaning.specs.Machine.{CRun}
 
--- The text is that of a program. The bytes written are the text of a unit of the C subset, which is well formed. In every world the unit does what the program does.
-pub record Compiles (text written : List ℕ) : Type 0 where
+-- the text is that of the program
+pub record IsProgramText (text : List ℕ) (p : Program) : Type 0 where
+  pub forms : List Datum
+  pub reads : Reads text forms
+  pub is_program : IsProgram forms p
+
+-- The text is that of a program. The unit is well formed. In every world it does what the program does, and has at most one
+-- frame more than the program's calls are deep.
+pub record Translates (text : List ℕ) (u : CUnit) : Type 0 where
   pub program : Program
-  pub is_program : IsProgram text program
+  pub is_program : IsProgramText text program
+  pub well_formed : IsWellFormed u
+  pub agree : (w : Surroundings) → Agree (Source program w) (CRun u w)
+  pub shallow : (w : Surroundings) → Shallow 1 (Source program w) (CRun u w)
+
+-- the bytes written are the text of a unit that translates the text
+pub record Compiles (text written : List ℕ) : Type 0 where
   pub unit : CUnit
+  pub translates : Translates text unit
   pub is_text : CText written unit
-  pub agree : (w : Surroundings) → Agree (Source program w) (CRun unit w)

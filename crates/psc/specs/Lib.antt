@@ -1,6 +1,5 @@
-pub mod Reading
-pub mod Code
 pub mod Words
 pub mod Lines
 pub mod Headline
+pub mod Refusals
 pub mod Answers

@@ -5,12 +5,10 @@
 #![tactic(auto)]
 
 mod answer;
-mod build;
-mod emit;
 mod kinds;
 mod lines;
-mod read;
 mod run;
+mod translation;
 mod words;
 
 use answer::status_of;

@@ -5,12 +5,11 @@ ghost use Rattle.psc.specs.Lines.{answer_line};
 ghost use Rattle.psc.specs.Answers.{Says, Answers, LineWritten};
 
 use crate::answer::Answer;
-use crate::build::build;
-use crate::emit::emit;
 use crate::lines::write_fault;
-use crate::read::{Unread, read_program};
+use crate::translation::{Untranslated, translate};
 use crate::words::usage_of;
-use ps_base::{Fault, Limits, Names, NoMemory, Place, Sink, SinkFault};
+use c_emit::emit;
+use ps_base::{Fault, Limits, Names, Place, Sink, SinkFault};
 use ps_edge::{Source, TextFault, read_text};
 use std::alloc::Global;
 
@@ -31,14 +30,10 @@ fn compile<I: Source, O: Sink>(alloc: Global, input: &mut I, output: &mut O) -> 
         Err(TextFault::TooLong) => return Answer::Refused(Fault::TooLong(0)),
         Err(TextFault::NoMemory) => return Answer::NoMemory,
     };
-    let program = match read_program(alloc, text.as_slice()) {
-        Ok(program) => program,
-        Err(Unread::NotBuilt) => return Answer::Refused(Fault::NotBuilt(TEXT_START)),
-        Err(Unread::NoMemory) => return Answer::NoMemory,
-    };
-    let unit = match build(alloc, &program) {
+    let unit = match translate(alloc, text.as_slice()) {
         Ok(unit) => unit,
-        Err(NoMemory) => return Answer::NoMemory,
+        Err(Untranslated::NotBuilt) => return Answer::Refused(Fault::NotBuilt(TEXT_START)),
+        Err(Untranslated::NoMemory) => return Answer::NoMemory,
     };
     match emit(&unit, output) {
         Ok(()) => Answer::Done,
@@ -49,18 +44,22 @@ fn compile<I: Source, O: Sink>(alloc: Global, input: &mut I, output: &mut O) -> 
 /// All that the program does: reads the words, reads the text of the input to its end, and writes its translation to C to
 /// the output.
 ///
-/// The words are exactly `compile`. A text is `(define (main) W ... E)` of at most 4,194,304 bytes. Each W is
-/// `(write-byte E)`. E is an integer of 64 bits, an operation `(+ E E)`, `(- E E)` or `(* E E)`, or a conditional
-/// `(if (< E E) E E)`. At most 200 brackets are open at once.
+/// The words are exactly `compile`. A text is one or more definitions `(define (f x ...) (write-byte E) ... E)` of at most
+/// 4,194,304 bytes, of which one is that of `main`, without parameters. E is an integer of 64 bits, a parameter, an operation
+/// `(+ E E)`, `(- E E)` or `(* E E)`, a conditional `(if (< E E) E E)` or `(if (= E E) E E)`, a call `(f E ...)`, or
+/// `(read-byte)`. No name is defined twice, a procedure has at most 127 parameters, all with different names, each name
+/// stands for something, and a call has as many operands as the procedure has parameters. At most 200 brackets are open at
+/// once.
 ///
 /// # Answers
 ///
-/// - `Done`: the whole translation was appended to the output. In every world it does what the program does.
+/// - `Done`: the whole translation was appended to the output. In every world it does what the program does, and has at most
+///   one frame more than the program's calls are deep.
 /// - `Refused(Usage(i))`: exactly where word i is the first that breaks the rules, or the command is missing. Nothing was
 ///   read or written.
 /// - `Refused(Source)`: only where the input's count of faults rose. Nothing was written.
 /// - `Refused(TooLong(0))`: exactly where more than 4,194,304 bytes were taken from the input. Nothing was written.
-/// - `Refused(NotBuilt(0:1:1))`: exactly where the text that was read is not of the form, or opens bracket level 201.
+/// - `Refused(NotBuilt(0:1:1))`: exactly where the text that was read is not the text of a program.
 ///   Nothing was written.
 /// - `Refused(Sink)`: only where the output's count of faults rose. A front of the translation was appended.
 /// - `NoMemory`: where memory ran out. Nothing was written.

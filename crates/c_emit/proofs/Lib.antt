@@ -1,0 +1,16 @@
+mod Integers
+mod Parameters
+mod Targets
+mod UnitLines
+mod Patches
+mod Building
+mod Sizes
+mod Labels
+mod Formed
+mod Simulation
+mod Correct
+mod Conditionals
+mod Operands
+mod Bodies
+mod Calls
+mod Runs

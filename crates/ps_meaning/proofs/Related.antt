@@ -1,0 +1,54 @@
+-- A relation of runs that the parts of a run keep is kept by the bodies of procedures, where entering one keeps it.
+use Rattle.std.proofs.Common.{ℕ, ℤ, ◌+◌, List, [], ◌∷◌, map, Option, sym, subst}
+use Rattle.std.specs.Prelude.{Bool, if◌then◌else◌}
+use Rattle.std.specs.List.{AllByRecursion}
+use Rattle.ps_base.specs.declared.world.Event.{Event}
+use Rattle.ps_base.specs.Outcome.{End}
+use Rattle.ps_meaning.specs.declared.program.Expr.{Expr}
+use Rattle.ps_meaning.specs.declared.program.Procedure.{Procedure}
+use Rattle.ps_meaning.specs.Run.{Run, ◌>>=◌, pure, known, note, read_byte}
+use Rattle.ps_meaning.specs.Meaning.{Enter, Context, meaning_of, eval, each, write, write_all, body}
+use Rattle.ps_meaning.proofs.Trees.{induction, fold-integer, fold-parameter, fold-operation, fold-if, fold-call, fold-read}
+
+-- the parts of a run keep a relation
+pub record Keeps (R : (A : Type 0) → Run A → Run A → Type 0) : Type 1 where
+  pub pures : {A : Type 0} (a : A) → R A (pure a) (pure a)
+  pub knows : {A : Type 0} (e : End) (o : Option A) → R A (known e o) (known e o)
+  pub notes : (e : Event) → R (Unit {0}) (note e) (note e)
+  pub reads : R ℤ read_byte read_byte
+  pub ifs : {A : Type 0} (b : Bool) {p q p' q' : Run A} → R A p p' → R A q q' → R A (if b then p else q) (if b then p' else q')
+  pub thens : {A B : Type 0} {p q : Run A} {f g : A → Run B} → R A p q → ((a : A) → R B (f a) (g a)) → R B (p >>= f) (q >>= g)
+
+-- entering a procedure by g is related to entering it by f
+pub record Enters (R : (A : Type 0) → Run A → Run A → Type 0) (f g : Enter) : Type 0 where
+  pub by : (depth n : ℕ) (vs : List ℤ) → R ℤ (f depth n vs) (g depth n vs)
+
+module _ (R : (A : Type 0) → Run A → Run A → Type 0) (keeps : Keeps R) (f g : Enter) (enter : Enters R f g) (depth : ℕ) (vs : List ℤ) where
+  abbrev with : Enter → Context
+  with h = record { enter = h; depth = depth; arguments = vs }
+
+  abbrev IsRelated : Expr → Type 0
+  IsRelated e = R ℤ (eval e (with f)) (eval e (with g))
+
+  each_related : (es : List Expr) → AllByRecursion IsRelated es → R (List ℤ) (each (map eval es) (with f)) (each (map eval es) (with g))
+  each_related [] all = keeps.pures []
+  each_related (e ∷ es) all = keeps.thens all.0 (λ v. keeps.thens (each_related es all.1) (λ us. keeps.pures (v ∷ us)))
+
+  eval_related : (e : Expr) → IsRelated e
+  eval_related = induction IsRelated
+      (λ i. subst (λ m. R ℤ (m (with f)) (m (with g))) (sym (fold-integer meaning_of i)) (keeps.pures i))
+      (λ k. subst (λ m. R ℤ (m (with f)) (m (with g))) (sym (fold-parameter meaning_of k)) (keeps.knows _ _))
+      (λ o a b ha hb. subst (λ m. R ℤ (m (with f)) (m (with g))) (sym (fold-operation meaning_of o a b)) (keeps.thens ha (λ x. keeps.thens hb (λ y. keeps.knows _ _))))
+      (λ q a b t e ha hb ht he. subst (λ m. R ℤ (m (with f)) (m (with g))) (sym (fold-if meaning_of q a b t e)) (keeps.thens ha (λ x. keeps.thens hb (λ y. keeps.ifs _ ht he))))
+      (λ n es all. subst (λ m. R ℤ (m (with f)) (m (with g))) (sym (fold-call meaning_of n es)) (keeps.thens (each_related es all) (λ us. enter.by (depth + 1) n us)))
+      (subst (λ m. R ℤ (m (with f)) (m (with g))) (sym (fold-read meaning_of)) keeps.reads)
+
+  write_related : (e : Expr) → R (Unit {0}) (write e (with f)) (write e (with g))
+  write_related e = keeps.thens (eval_related e) (λ x. keeps.thens (keeps.knows _ _) (λ b. keeps.notes _))
+
+  writes_related : (es : List Expr) → R (Unit {0}) (write_all es (with f)) (write_all es (with g))
+  writes_related [] = keeps.pures tt
+  writes_related (e ∷ es) = keeps.thens (write_related e) (λ u. writes_related es)
+
+  pub body_related : (q : Procedure) → R ℤ (body q (with f)) (body q (with g))
+  body_related q = keeps.thens (writes_related q.writes) (λ u. eval_related q.value)

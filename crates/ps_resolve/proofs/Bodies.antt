@@ -1,0 +1,52 @@
+-- Bodies: the writes before the value.
+use Rattle.std.proofs.Common.{◌≡◌, ℕ, List, [], ◌∷◌, ◌++◌, map, length, Some, None, refl, sym, ap, ◌∙◌}
+use Rattle.std.specs.Prelude.{Option}
+use Rattle.std.proofs.lemmas.List.{map-append}
+use Rattle.ps_datum.specs.declared.datum.Datum.{Datum}
+use Rattle.ps_meaning.specs.declared.program.Expr.{Expr}
+use Rattle.ps_meaning.specs.declared.program.Procedure.{Procedure}
+use Rattle.ps_meaning.specs.Forms.{Scope, Part, part, Body, all_some, and_also, body_of, body_by, value_by, procedure_by}
+use Rattle.ps_resolve.specs.declared.program.Unresolved.{Unresolved}
+use Rattle.ps_resolve.specs.declared.program.Unresolved.TheVariants.{NotProgram, NoMemory}
+use Rattle.ps_resolve.specs.Refusals.{RefusesBy}
+use Rattle.ps_resolve.specs.Definitions.{procedure_at}
+
+abbrev whole : Option (List Expr) → Option Expr → Option Body
+whole (Some ws) (Some e) = Some (record { writes = ws; value = e })
+whole _ _ = None
+
+no_writes : (e : Option Expr) → value_by e ≡ whole (Some []) e
+no_writes None = refl
+no_writes (Some e) = refl
+
+one_write : (w : Option Expr) (ws : Option (List Expr)) (e : Option Expr) → body_by w (whole ws e) ≡ whole (and_also w ws) e
+one_write None ws e = refl
+one_write (Some w) None e = refl
+one_write (Some w) (Some ws) None = refl
+one_write (Some w) (Some ws) (Some e) = refl
+
+body_is : (s : Scope) (ps : List Part) (q : Part) → body_of s (ps ++ q ∷ []) ≡ whole (all_some (map (λ (p : Part). p.write s) ps)) (q.expr s)
+body_is s [] q = no_writes (q.expr s)
+body_is s (p ∷ []) q = ap (body_by (p.write s)) (body_is s [] q) ∙ one_write (p.write s) (Some []) (q.expr s)
+body_is s (p ∷ r ∷ ps) q = ap (body_by (p.write s)) (body_is s (r ∷ ps) q) ∙ one_write (p.write s) (all_some (map (λ (p : Part). p.write s) (r ∷ ps))) (q.expr s)
+
+abbrev with_parameters : ℕ → List Expr → Expr → Option Procedure
+with_parameters n ws e = Some (record { parameters = n; writes = ws; value = e })
+
+module _ (s : Scope) (body front : List Datum) (last : Datum) (is : body ≡ front ++ last ∷ []) where
+  parts_are : body_of s (map part body) ≡ whole (all_some (map (λ (p : Part). p.write s) (map part front))) ((part last).expr s)
+  parts_are = ap (λ z. body_of s (map part z)) is ∙ ap (body_of s) (map-append part front (last ∷ [])) ∙ body_is s (map part front) (part last)
+
+  pub refuses_writes : (e : Unresolved) → RefusesBy e (all_some (map (λ (p : Part). p.write s) (map part front))) → RefusesBy e (procedure_at s body)
+  refuses_writes NotProgram h = ap (procedure_by s) (parts_are ∙ ap (λ ws. whole ws ((part last).expr s)) h)
+  refuses_writes NoMemory h = tt
+
+  module _ (ws : List Expr) (writes : all_some (map (λ (p : Part). p.write s) (map part front)) ≡ Some ws) where
+    pub refuses_value : (e : Unresolved) → RefusesBy e ((part last).expr s) → RefusesBy e (procedure_at s body)
+    refuses_value NotProgram h = ap (procedure_by s) (parts_are ∙ (λ i. whole (writes i) (h i)))
+    refuses_value NoMemory h = tt
+
+    pub whole_procedure : (e : Expr) (n : ℕ) → (part last).expr s ≡ Some e → n ≡ length s.parameters → procedure_at s body ≡ Some (record { parameters = n; writes = ws; value = e })
+    whole_procedure e n h m =
+        ap (procedure_by s) (parts_are ∙ (λ i. whole (writes i) (h i)))
+        ∙ ap (λ k. with_parameters k ws e) (sym m)

@@ -1,0 +1,9 @@
+pub mod Options
+pub mod Refusals
+pub mod Integers
+pub mod Bodies
+pub mod Heads
+pub mod Parameters
+pub mod Mains
+pub mod Definitions
+pub mod Programs

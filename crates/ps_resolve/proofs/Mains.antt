@@ -1,0 +1,19 @@
+-- The first definition of `main`.
+use Rattle.std.proofs.Common.{◌≡◌, ℕ, zero, suc, ◌+◌, ◌-◌, ◌<◌, ◌≤◌, List, [], ◌∷◌, ◌++◌, length, take, drop, get_or, Some, refl, sym, ap, ◌∙◌, arith, subst}
+use Rattle.std.specs.Prelude.{slice_get}
+use Rattle.std.proofs.lemmas.List.{take-append-drop, drop_more, length-append, take_rest}
+use Rattle.std.proofs.lemmas.Option.{get_or_from_slice_get}
+use Rattle.ps_datum.specs.declared.datum.Datum.{Datum}
+use Rattle.ps_meaning.specs.Forms.{part, main_head}
+use Rattle.ps_resolve.specs.Definitions.{IsAround}
+use Rattle.ps_resolve.proofs.Parameters.{slice_get-behind}
+
+-- none of the first i data is a definition of `main`
+pub record NoMainBelow (i : ℕ) (ds : List Datum) : Type 0 where
+  pub none : (k : ℕ) (d : Datum) → k < i → slice_get ds k ≡ Some d → (part d).head ≡ Some main_head → ⊥
+
+-- a list without a definition of `main`
+pub no_form : (ds : List Datum) (i : ℕ) → length ds ≤ i → NoMainBelow i ds → (before after : List Datum) (main : Datum) → IsAround ds before main after → ⊥
+no_form ds i long so_far before after main is =
+    let n = ap length is.form in
+    so_far.none (length before) main (omega (arith, n, length-append before (main ∷ after))) (ap (λ z. slice_get z (length before)) is.form ∙ slice_get-behind before after main) is.is_main

@@ -1,0 +1,12 @@
+use Rattle.std.proofs.Common.{rules, subst, sym}
+use Rattle.std.proofs.lemmas.List.{take_rest}
+use Rattle.ps_resolve.specs.Refusals.{IsNotProgram}
+use Rattle.ps_resolve.specs.Definitions.{AreParameters}
+use Rattle.ps_resolve.proofs.Heads.{AreParameters-of_head}
+use Rattle.ps_resolve.proofs.definition.read_definition.Goals as goal
+
+pub returns-in_err-parameters-clause-unread : goal.returns-in_err-parameters-clause-unread
+returns-in_err-parameters-clause-unread c = λ u h e fine.
+    let is : IsNotProgram c.in_err-parameters.field-0.0 = search rules in
+    let arm = c.in-Some-len1-up-default in
+    c.in_err-parameters.ensures.unread is h.parameters (subst (λ z. AreParameters z h.parameters) (sym (take_rest arm.field-0-0.now 1)) (AreParameters-of_head c.args.form.now arm.field-0-0.now arm.body.now arm.ensures arm.len_at_least h e fine))

@@ -1,0 +1,60 @@
+//! What names stand for.
+
+ghost use Rattle.std.specs.Prelude.{◌≡◌, Some};
+ghost use Rattle.ps_meaning.specs.Forms.{atom_of, with_arity, called};
+ghost use Rattle.ps_resolve.specs.Values.{scope_of};
+
+use crate::words::integer;
+use ps_base::{Name, Names};
+use ps_meaning::Expr;
+
+// Where an expression stands: the parameters of the procedure around it, and the program's procedures with their numbers of
+// parameters.
+#[derive(Drop)]
+pub(crate) struct Scope<'a> {
+    pub parameters: &'a Names,
+    pub procedures: &'a Names,
+    pub arities: &'a [u32],
+}
+
+// The integer or the parameter that a word is which stands alone.
+pub(crate) fn atom(scope: &Scope<'_>, word: &[u8]) -> Option<Expr>
+    ensures { result ≡ atom_of (scope_of scope.now) word.now }
+{
+    if let Some(i) = integer(word) {
+        return Some(Expr::Integer(i));
+    }
+    match scope.parameters.find(word) {
+        Some(Name(number)) => Some(Expr::Parameter(number)),
+        None => None,
+    }
+}
+
+// The procedure with this number of parameters.
+fn with_arity(arities: &[u32], operands: usize, procedure: u32) -> Option<u32>
+    ensures { result ≡ with_arity arities.now operands (Some procedure) }
+{
+    match arities.get(procedure as usize) {
+        Some(arity) => {
+            if *arity as usize == operands {
+                Some(procedure)
+            } else {
+                None
+            }
+        }
+        None => None,
+    }
+}
+
+// The procedure that is called by a name with so many operands.
+pub(crate) fn called(scope: &Scope<'_>, name: &[u8], operands: usize) -> Option<u32>
+    ensures { result ≡ called (scope_of scope.now) name.now operands }
+{
+    if scope.parameters.find(name).is_some() {
+        return None;
+    }
+    match scope.procedures.find(name) {
+        Some(Name(procedure)) => with_arity(scope.arities, operands, procedure),
+        None => None,
+    }
+}

@@ -1,7 +1,0 @@
-use Rattle.c_meaning.specs.Text.{lines_text, line_text}
-use Rattle.ps_base.proofs.Writing.{adds_then, adds_last}
-use Rattle.psc.proofs.emit.StatementLinesStyleStatement.put_at.Goals as goal
-
-pub returns : goal.returns
-unfolding lines_text line_text
-returns g c = search (adds_then, adds_last) depth 14
