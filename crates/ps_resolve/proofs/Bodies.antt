@@ -11,6 +11,7 @@ use Rattle.ps_resolve.specs.declared.program.Unresolved.TheVariants.{NotProgram,
 use Rattle.ps_resolve.specs.Refusals.{RefusesBy}
 use Rattle.ps_resolve.specs.Definitions.{procedure_at}
 
+-- a body of writes and a value
 abbrev whole : Option (List Expr) → Option Expr → Option Body
 whole (Some ws) (Some e) = Some (record { writes = ws; value = e })
 whole _ _ = None
@@ -25,14 +26,17 @@ one_write (Some w) None e = refl
 one_write (Some w) (Some ws) None = refl
 one_write (Some w) (Some ws) (Some e) = refl
 
+-- a body is its writes and the value behind them
 body_is : (s : Scope) (ps : List Part) (q : Part) → body_of s (ps ++ q ∷ []) ≡ whole (all_some (map (λ (p : Part). p.write s) ps)) (q.expr s)
 body_is s [] q = no_writes (q.expr s)
 body_is s (p ∷ []) q = ap (body_by (p.write s)) (body_is s [] q) ∙ one_write (p.write s) (Some []) (q.expr s)
 body_is s (p ∷ r ∷ ps) q = ap (body_by (p.write s)) (body_is s (r ∷ ps) q) ∙ one_write (p.write s) (all_some (map (λ (p : Part). p.write s) (r ∷ ps))) (q.expr s)
 
+-- a procedure with so many parameters
 abbrev with_parameters : ℕ → List Expr → Expr → Option Procedure
 with_parameters n ws e = Some (record { parameters = n; writes = ws; value = e })
 
+-- a body is read, or refused by its writes or its value
 module _ (s : Scope) (body front : List Datum) (last : Datum) (is : body ≡ front ++ last ∷ []) where
   parts_are : body_of s (map part body) ≡ whole (all_some (map (λ (p : Part). p.write s) (map part front))) ((part last).expr s)
   parts_are = ap (λ z. body_of s (map part z)) is ∙ ap (body_of s) (map-append part front (last ∷ [])) ∙ body_is s (map part front) (part last)

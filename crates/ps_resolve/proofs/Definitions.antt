@@ -1,10 +1,9 @@
 -- Definitions, their heads and their procedures.
-use Rattle.std.proofs.Common.{◌≡◌, ℕ, suc, ◌+◌, ◌<◌, ◌≤◌, List, [], ◌∷◌, ◌++◌, map, length, take, drop, get_or, Some, zero, refl, sym, ap, ◌∙◌, arith, subst}
+use Rattle.std.proofs.Common.{◌≡◌, ℕ, suc, ◌+◌, ◌<◌, ◌≤◌, List, [], ◌∷◌, ◌++◌, map, length, take, drop, get_or, Some, zero, refl, ap, ◌∙◌, arith, subst}
 use Rattle.std.specs.List.{AllByRecursion}
 use Rattle.std.proofs.lemmas.List.{map-append}
 use Rattle.ps_base.specs.Names.{AreDistinct, IsNew}
 use Rattle.ps_datum.specs.declared.datum.Datum.{Datum}
-use Rattle.ps_base.specs.Numbers.{sum_of}
 use Rattle.ps_datum.specs.Weight.{weight, weight_node, weights}
 use Rattle.ps_datum.proofs.Trees.{induction, fold-word, fold-list}
 use Rattle.ps_meaning.specs.Forms.{Head, IsHead, part, heads_of, all_some, and_also, procedures_in, scope_in, names_in, arities_in}
@@ -24,6 +23,7 @@ push (e ∷ ds) (y ∷ xs) d x all is = (all.0, push ds xs d x all.1 is)
 pub one_definition : (ds : List Datum) (xs : List Definition) (d : Datum) (x : Definition) → AreDefinitions ds xs → IsDefinition d x → AreDefinitions (ds ++ d ∷ []) (xs ++ x ∷ [])
 one_definition ds xs d x all is = record { each = push ds xs d x all.each is }
 
+-- the heads of definitions
 heads_by : (ds : List Datum) (xs : List Definition) → AreDefinitionsByRecursion ds xs → heads_of ds ≡ Some (heads_in xs)
 heads_by [] [] all = refl
 heads_by [] (x ∷ xs) all = absurd all
@@ -36,6 +36,7 @@ are_heads_by [] (x ∷ xs) all = absurd all
 are_heads_by (d ∷ ds) [] all = absurd all
 are_heads_by (d ∷ ds) (x ∷ xs) all = (all.0.is_head, are_heads_by ds xs all.1)
 
+-- the procedures of definitions
 procedures_by : (heads : List Head) (ds : List Datum) (xs : List Definition) → AreDefinitionsByRecursion ds xs → procedures_in heads (heads_in xs) ds ≡ all_some (map (procedure_among heads) xs)
 procedures_by heads [] [] all = refl
 procedures_by heads [] (x ∷ xs) all = absurd all
@@ -69,6 +70,7 @@ weight_pos =
     (λ w. rw (fold-word weight_node w) (omega arith))
     (λ ds all. rw (fold-list weight_node ds) (omega arith))
 
+-- there are no more data than tokens
 pub length-weights : (ds : List Datum) → length ds ≤ weights ds
 length-weights [] = omega arith
 length-weights (d ∷ ds) = omega (arith, weight_pos d, length-weights ds)
@@ -79,6 +81,7 @@ pub record GoodHeads (ds : List Datum) : Type 0 where
   pub are : heads_of ds ≡ Some heads
   pub good : AllByRecursion IsHead heads
 
+-- the first head is good, and so are the others
 first_good : (d : Datum) (ds : List Datum) → GoodHeads (d ∷ ds) → (h : Head) × ((part d).head ≡ Some h) × IsHead h × GoodHeads ds
 first_good d ds all =
     let p = joined (part d).head (heads_of ds) all.heads all.are in
@@ -93,6 +96,7 @@ good-at (e ∷ ds) zero d within is all =
     (f.0, ap (λ z. (part z).head) is ∙ f.1, f.2)
 good-at (e ∷ ds) (suc i) d within is all = good-at ds i d (omega arith) is (first_good e ds all).3
 
+-- good heads in two parts
 pub good-parts : (ds es : List Datum) → GoodHeads (ds ++ es) → GoodHeads ds × GoodHeads es
 good-parts [] es all = (record { heads = []; are = refl; good = tt }, all)
 good-parts (d ∷ ds) es all =

@@ -1,27 +1,29 @@
 -- Heads of definitions.
-use Rattle.std.proofs.Common.{◌≡◌, ℕ, ◌≤◌, List, [], ◌∷◌, map, length, drop, get_or, Bool, true, false, Some, None, refl, sym, ap, ◌∙◌, arith, subst, ⊎_elim}
+use Rattle.std.proofs.Common.{◌≡◌, ℕ, ◌≤◌, List, [], ◌∷◌, map, length, drop, get_or, true, Some, None, refl, sym, ap, ◌∙◌, arith, subst, ⊎_elim}
 use Rattle.std.specs.Prelude.{Option, codes, if◌then◌else◌}
 use Rattle.std.specs.List.{list_all}
 use Rattle.std.proofs.lemmas.List.{length-map}
 use Rattle.ps_datum.specs.declared.datum.Datum.{Datum}
-use Rattle.ps_meaning.specs.Forms.{Part, part, Head, IsHead, main_head, all_some, and_also, head_by, is_name}
+use Rattle.ps_meaning.specs.Forms.{Part, part, Head, IsHead, main_head, and_also, head_by, is_name}
 use Rattle.ps_meaning.proofs.Lists.{joined}
 use Rattle.ps_meaning.proofs.Tests.{and_true}
 use Rattle.ps_resolve.specs.Definitions.{words_of, IsDefine, AreParameters}
 use Rattle.ps_resolve.proofs.Options.{length-all_some}
-use Rattle.ps_resolve.proofs.Integers.{true_or_false}
+use Rattle.ps_base.proofs.Tables.{true_or_false}
 
 -- the words of a head
 pub record AreWords (ws : Option (List (List ℕ))) (h : Head) : Type 0 where
   pub words : ws ≡ Some (h.name ∷ h.parameters)
   pub are_names : list_all is_name (h.name ∷ h.parameters) ≡ true
 
+-- the head with this name and these parameters
 abbrev head_named : List ℕ → List (List ℕ) → Option Head
 head_named f xs = Some (record { name = f; parameters = xs })
 
 head_is : (f : List ℕ) (xs : List (List ℕ)) (h : Head) → head_named f xs ≡ Some h → record { name = f; parameters = xs } ≡ h
 head_is f xs h e = cc
 
+-- a head has its words
 pub words-of_head : (ws : Option (List (List ℕ))) (h : Head) → head_by ws ≡ Some h → AreWords ws h
 words-of_head None h e = cc
 words-of_head (Some []) h e = cc
@@ -33,9 +35,6 @@ words-of_head (Some (f ∷ xs)) h e =
     subst (AreWords (Some (f ∷ xs))) is (record { words = refl; are_names = yes }))
     (λ no. let none = sym (ap (λ b. if b then head_named f xs else None) no) ∙ e in cc)
     (true_or_false (list_all is_name (f ∷ xs)))
-
-pub head-of_words : (ws : Option (List (List ℕ))) (h : Head) → AreWords ws h → head_by ws ≡ Some h
-head-of_words ws h a = ap head_by a.words ∙ ap (λ b. if b then Some h else None) a.are_names
 
 -- the only member of a list
 only : {A : Type 0} (xs : List A) (d : A) → 1 ≤ length xs → length xs ≤ 1 → d ≡ get_or xs 0 d → xs ≡ d ∷ []

@@ -1,23 +1,18 @@
 -- What `parse` reads is the integer that a word is.
-use Rattle.std.proofs.Common.{◌≡◌, ℕ, ◌<◌, ◌-◌, List, [], ◌∷◌, length, drop, Bool, true, false, refl, sym, ap, ◌∙◌, arith, zero, suc, subst, lit<, inl, inr, ⊎_elim, ◌⊎◌, eqb-true, ◌==◌, cond, Ok, Err, Some, None, w64, rules}
-use Rattle.std.specs.Prelude.{Option, Result, ℤ, pos, negsuc, nat_lt, ◌&&◌, if◌then◌else◌, FitsSigned}
+use Rattle.std.proofs.Common.{◌≡◌, ℕ, ◌<◌, List, [], ◌∷◌, length, true, refl, sym, ap, ◌∙◌, arith, ⊎_elim, Ok, Err, Some, None, w64}
+use Rattle.std.specs.Prelude.{Result, ℤ, pos, negsuc, nat_lt, if◌then◌else◌, FitsSigned}
 use Rattle.std.specs.Result.{result_ok}
 use Rattle.std.specs.List.{list_all}
-use Rattle.std.specs.Str.{IsAscii}
 use Rattle.std.specs.Str.Parse.{AllDigits, IsNumeral, ParsesSigned, without_leading_sign, signed_digits_value}
 use Rattle.std.specs.Char.{digit_value}
-use Rattle.std.specs.Int.{IsInRange}
 use Rattle.std.specs.Cmp.Derive.{both_true}
 use Rattle.std.proofs.lemmas.Str.Parse.{digit_from_value}
 use Rattle.std.proofs.lemmas.Str.{digit_value_digit}
 use Rattle.std.proofs.lemmas.Bool.{ltb-true, lt-ltb}
+use Rattle.ps_base.proofs.Tables.{true_or_false}
 use Rattle.ps_base.specs.Numbers.{fit, is_word}
 use Rattle.ps_meaning.proofs.Tests.{and_true}
 use Rattle.ps_meaning.specs.Forms.{is_digit, is_numeral, integer_of}
-
-pub true_or_false : (b : Bool) → (b ≡ true) ⊎ (b ≡ false)
-true_or_false true = inl refl
-true_or_false false = inr refl
 
 -- digits are those bytes
 digits : (ds : List ℕ) → list_all is_digit ds ≡ true → AllDigits 10 ds

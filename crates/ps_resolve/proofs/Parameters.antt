@@ -1,15 +1,15 @@
 -- Different names, one after another.
-use Rattle.std.proofs.Common.{◌≡◌, ℕ, zero, suc, ◌+◌, ◌<◌, ◌≤◌, List, [], ◌∷◌, ◌++◌, map, length, take, drop, get_or, Bool, true, false, Some, None, refl, sym, ap, ◌∙◌, arith, subst}
-use Rattle.std.specs.Prelude.{Option, slice_get, ◌&&◌}
+use Rattle.std.proofs.Common.{◌≡◌, ℕ, zero, suc, ◌+◌, ◌<◌, List, [], ◌∷◌, ◌++◌, length, take, get_or, true, Some, refl, sym, ap, ◌∙◌, arith, subst}
+use Rattle.std.specs.Prelude.{slice_get}
 use Rattle.std.specs.List.{list_all}
 use Rattle.std.specs.Cmp.Derive.{both_true}
-use Rattle.std.proofs.lemmas.List.{take-append-drop, drop_more, map-append, length-append}
+use Rattle.std.proofs.lemmas.List.{length-append}
 use Rattle.std.proofs.lemmas.List.Folds.{list_all-append}
 use Rattle.ps_base.specs.Names.{AreDistinct, IsNew}
 use Rattle.ps_datum.specs.declared.datum.Datum.{Datum}
-use Rattle.ps_meaning.specs.Forms.{Part, part, all_some, is_name}
+use Rattle.ps_meaning.specs.Forms.{Part, part, is_name}
 use Rattle.ps_meaning.proofs.Tests.{and_true}
-use Rattle.ps_resolve.specs.Definitions.{words_of, AreParameters}
+use Rattle.ps_resolve.specs.Definitions.{AreParameters}
 use Rattle.ps_resolve.proofs.Options.{one_more, split_at}
 
 -- the member behind others
@@ -17,6 +17,7 @@ pub slice_get-behind : {A : Type 0} (xs rest : List A) (x : A) → slice_get (xs
 slice_get-behind [] rest x = refl
 slice_get-behind (y ∷ xs) rest x = slice_get-behind xs rest x
 
+-- a member before others
 slice_get-before : {A : Type 0} (xs ys : List A) (i : ℕ) (x : A) → slice_get xs i ≡ Some x → (i < length xs) × (slice_get (xs ++ ys) i ≡ Some x)
 slice_get-before [] ys i x h = cc
 slice_get-before (y ∷ xs) ys zero x h = (omega arith, h)
@@ -52,6 +53,7 @@ module _ (ds : List Datum) (i : ℕ) (d : Datum) (within : i < length ds) (is : 
         omega (arith, all.few, long, length-append names (s.0 ∷ s.1)),
       )
 
+  -- the next parameter is none of those before it
   pub new_parameter : (full : List (List ℕ)) → AreParameters ds full → (w : List ℕ) → (part d).word ≡ Some w → IsNew names w
   new_parameter full all w word =
       let n = next_parameter full all in

@@ -1,7 +1,7 @@
-use Rattle.std.proofs.Common.{◌∙◌, sym, ap, arith}
+-- The head of `main` has that word alone.
+use Rattle.std.proofs.Common.{◌∙◌, sym, arith}
 use Rattle.std.specs.Prelude.{codes}
 use Rattle.std.proofs.lemmas.Slice.Eq.{bytes_eq-Decides}
-use Rattle.ps_meaning.specs.Forms.{part, main_head}
 use Rattle.ps_resolve.proofs.Heads.{too_many, main_named, name-of_main}
 use Rattle.ps_resolve.proofs.definition.is_main.Goals as goal
 

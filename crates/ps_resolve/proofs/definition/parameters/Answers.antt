@@ -1,3 +1,4 @@
+-- The loop over the names of parameters reads one more, or refuses all by one.
 use Rattle.std.proofs.Common.{sym, ◌+◌, take, subst, arith, rules}
 use Rattle.ps_base.specs.Names.{AreDistinct}
 use Rattle.ps_resolve.specs.Definitions.{AreParameters}

@@ -1,3 +1,4 @@
+-- What the loop over the names of parameters has read.
 use Rattle.std.proofs.Common.{take}
 use Rattle.ps_resolve.specs.Definitions.{AreParameters}
 use Rattle.ps_resolve.proofs.definition.parameters.Given as goal

@@ -1,5 +1,5 @@
-use Rattle.std.proofs.Common.{rules, ap, ◌∙◌, sym, ◌≡◌, Some}
-use Rattle.ps_meaning.specs.Forms.{procedure_by}
+-- A procedure is read, or refused by its writes or its value.
+use Rattle.std.proofs.Common.{rules}
 use Rattle.ps_resolve.specs.Values.{scope_of}
 use Rattle.ps_resolve.proofs.Bodies.{refuses_writes, refuses_value, whole_procedure}
 use Rattle.ps_resolve.proofs.definition.procedure.Goals as goal

@@ -1,3 +1,4 @@
+-- A definition is refused by its parameters.
 use Rattle.std.proofs.Common.{rules, subst, sym}
 use Rattle.std.proofs.lemmas.List.{take_rest}
 use Rattle.ps_resolve.specs.Refusals.{IsNotProgram}

@@ -1,3 +1,4 @@
+-- The loop over writes reads one more, or refuses all by one.
 use Rattle.std.proofs.Common.{rules, ap, ◌∙◌, sym, Some}
 use Rattle.ps_meaning.specs.Forms.{Part, part}
 use Rattle.ps_resolve.specs.Values.{scope_of}

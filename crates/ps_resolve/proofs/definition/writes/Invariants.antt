@@ -1,3 +1,4 @@
+-- What the loop over writes has read.
 use Rattle.std.proofs.Common.{◌≡◌, map, take, Some}
 use Rattle.ps_meaning.specs.Forms.{Part, part, all_some}
 use Rattle.ps_resolve.specs.Values.{scope_of}

@@ -1,5 +1,6 @@
+-- The loop over operands reads one more, or refuses all by one.
 use Rattle.std.proofs.Common.{rules, ap, ◌∙◌, sym}
-use Rattle.ps_meaning.specs.Forms.{Part, part, all_some}
+use Rattle.ps_meaning.specs.Forms.{Part, part}
 use Rattle.ps_resolve.specs.Values.{scope_of}
 use Rattle.std.proofs.Common.{Some}
 use Rattle.ps_resolve.proofs.Options.{one_more}

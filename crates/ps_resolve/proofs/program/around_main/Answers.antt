@@ -1,3 +1,4 @@
+-- Where the loop passes all forms, none is the definition of `main`.
 use Rattle.ps_resolve.proofs.Mains.{no_form}
 use Rattle.ps_resolve.proofs.program.around_main.Goals as goal
 

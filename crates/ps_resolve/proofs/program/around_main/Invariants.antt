@@ -1,3 +1,4 @@
+-- What is known of the forms that the loop has passed.
 use Rattle.ps_resolve.proofs.Mains.{NoMainBelow}
 use Rattle.ps_resolve.proofs.program.around_main.Given as goal
 

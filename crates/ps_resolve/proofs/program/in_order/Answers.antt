@@ -1,3 +1,4 @@
+-- The definitions are read, or refused by those before or after that of `main`.
 use Rattle.std.proofs.Common.{rules, List, ◌∷◌, [], ◌++◌, ◌≡◌, sym, subst}
 use Rattle.ps_datum.specs.declared.datum.Datum.{Datum}
 use Rattle.ps_resolve.specs.declared.definition.Definition.{Definition}

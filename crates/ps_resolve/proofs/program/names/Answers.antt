@@ -1,3 +1,4 @@
+-- Names are refused where one stands twice.
 use Rattle.std.proofs.Common.{rules, subst, sym}
 use Rattle.ps_base.specs.Names.{IsNew}
 use Rattle.ps_resolve.specs.Refusals.{IsNotProgram}

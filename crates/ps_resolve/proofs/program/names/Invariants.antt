@@ -1,3 +1,4 @@
+-- The names that the loop has taken.
 use Rattle.std.proofs.Common.{◌≡◌, take}
 use Rattle.ps_base.specs.Names.{AreDistinct}
 use Rattle.ps_meaning.specs.Forms.{names_in}

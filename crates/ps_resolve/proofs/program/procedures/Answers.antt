@@ -1,4 +1,5 @@
-use Rattle.std.proofs.Common.{rules, ◌≡◌, ◌∙◌, sym, ap, subst, Some, take, map, arith}
+-- The loop over definitions reads one more procedure, or refuses all by one.
+use Rattle.std.proofs.Common.{rules, ◌∙◌, sym, ap, subst, Some, map}
 use Rattle.std.proofs.lemmas.List.{take_all}
 use Rattle.ps_base.specs.Names.{AreDistinct}
 use Rattle.ps_meaning.specs.Forms.{all_some}

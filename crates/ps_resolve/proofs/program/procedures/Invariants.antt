@@ -1,3 +1,4 @@
+-- The procedures that the loop has read.
 use Rattle.std.proofs.Common.{◌≡◌, map, take, Some}
 use Rattle.ps_meaning.specs.Forms.{all_some}
 use Rattle.ps_resolve.specs.Definitions.{heads_in, procedure_among}

@@ -1,3 +1,4 @@
+-- The loop over forms reads one more definition, or refuses all by one.
 use Rattle.std.proofs.Common.{rules, ◌++◌, ◌∷◌, [], ◌+◌, take, subst, sym, ap, ◌∙◌, append_assoc}
 use Rattle.std.proofs.lemmas.List.{take_more}
 use Rattle.ps_resolve.specs.Refusals.{IsNotProgram}

@@ -1,3 +1,4 @@
+-- The definitions that the loop has read.
 use Rattle.std.proofs.Common.{List, ◌++◌, take}
 use Rattle.ps_datum.specs.declared.datum.Datum.{Datum}
 use Rattle.ps_resolve.specs.Definitions.{AreDefinitions}

@@ -1,3 +1,4 @@
+-- What was made is the program of the forms, and what was refused is none.
 use Rattle.std.proofs.Common.{rules, ap, length, arith, subst}
 use Rattle.ps_meaning.specs.Forms.{IsProgram}
 use Rattle.ps_meaning.proofs.Programs.{program_valid, program_small}

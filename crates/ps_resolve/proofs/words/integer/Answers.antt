@@ -1,10 +1,12 @@
+-- `parse` of a word answers the integer that it is: a word that is no text has other bytes than digits.
 use Rattle.std.proofs.Common.{ℕ, ◌<◌, List, [], ◌∷◌, drop, ◌∙◌, ap, sym, cond, arith, subst, zero, suc, lit<, ⊎_elim, eqb-true, ◌==◌}
 use Rattle.std.specs.Str.{IsAscii}
 use Rattle.std.specs.Str.Parse.{AllDigits, without_leading_sign}
 use Rattle.std.proofs.lemmas.Fmt.{IsAscii-from_digits}
 use Rattle.std.proofs.lemmas.Str.{IsUtf8-from_ascii}
+use Rattle.ps_base.proofs.Tables.{true_or_false}
 use Rattle.ps_meaning.specs.Forms.{integer_of}
-use Rattle.ps_resolve.proofs.Integers.{true_or_false, parsed, no_integer}
+use Rattle.ps_resolve.proofs.Integers.{parsed, no_integer}
 use Rattle.ps_resolve.proofs.words.integer.Goals as goal
 
 first : (b : ℕ) (bs : List ℕ) → b < 128 → IsAscii bs → IsAscii (b ∷ bs)
