@@ -2,5 +2,10 @@
 #![tactic(auto)]
 
 mod datum;
+mod writing;
 
-pub use datum::Datum;
+pub use datum::{Datum, DatumKind};
+pub use writing::{has_known_names, write_datum};
+
+#[cfg(test)]
+mod tests;

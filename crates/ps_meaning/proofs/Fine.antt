@@ -4,25 +4,26 @@ use Rattle.std.specs.Prelude.{Bool, true, false, if◌then◌else◌, slice_get,
 use Rattle.std.specs.Option.{option_map}
 use Rattle.std.specs.List.{AllByRecursion, list_all}
 use Rattle.std.specs.Str.{bytes_eq}
-use Rattle.std.specs.Str.Parse.{without_leading_sign, signed_digits_value}
 use Rattle.std.specs.Cmp.Derive.{both_true}
 use Rattle.std.proofs.lemmas.Bool.{lt-ltb}
 use Rattle.std.proofs.lemmas.List.{length-map}
 use Rattle.ps_base.specs.Names.{number_of}
+use Rattle.ps_base.specs.declared.faults.Place.{Place}
 use Rattle.ps_base.specs.Numbers.{is_word}
 use Rattle.ps_base.specs.Numbers.{sum_of}
 use Rattle.ps_datum.specs.Weight.{weight, weights, weight_node}
 use Rattle.ps_datum.specs.declared.datum.Datum.{Datum}
-use Rattle.ps_datum.specs.declared.datum.Datum.TheOpen.{Datum-F}
-use Rattle.ps_datum.specs.declared.datum.Datum.TheVariants as datum
-use Rattle.ps_datum.proofs.Trees.{induction, fold-word, fold-list}
+use Rattle.ps_datum.specs.declared.datum.DatumKind.{DatumKind, fold-DatumKind}
+use Rattle.ps_datum.specs.declared.datum.DatumKind.TheOpen.{DatumKind-F}
+use Rattle.ps_datum.specs.declared.datum.DatumKind.TheVariants as k
+use Rattle.ps_datum.proofs.Trees as trees
 use Rattle.ps_meaning.specs.declared.program.Operator.{Operator}
 use Rattle.ps_meaning.specs.declared.program.Keyword.{Keyword}
 use Rattle.ps_meaning.specs.declared.program.Keyword.TheVariants as keywords
 use Rattle.ps_meaning.specs.declared.program.Expr.{Expr}
 use Rattle.ps_meaning.specs.declared.program.Expr.TheVariants as exprs
 use Rattle.ps_meaning.specs.declared.program.Procedure.{Procedure}
-use Rattle.ps_meaning.specs.Forms.{Scope, Test, Head, Body, Part, is_numeral, atom_or, has_arity, with_arity, and_also, all_some, keyword_of, operation_by, operation_of, test_by, test_of, conditional_by, conditional_of, read_of, call_by, call_of, form_by, form_headed, form_of, write_by, write_of, body_by, value_by, body_of, is_name, head_by, defined_by, procedure_by, part_node, part}
+use Rattle.ps_meaning.specs.Forms.{Scope, Test, Head, Body, Part, no_part, word_part, list_part, has_arity, with_arity, and_also, all_some, keyword_of, operation_by, operation_of, test_by, test_of, conditional_by, conditional_of, read_of, call_by, call_of, form_by, form_headed, form_of, write_by, write_of, body_by, value_by, body_of, is_name, head_by, defined_by, procedure_by, part_node, part}
 use Rattle.ps_meaning.specs.Size.{size_node, size}
 use Rattle.ps_meaning.specs.Valid.{Named, all_true, valid, valid_node}
 use Rattle.ps_meaning.proofs.Trees.{fold-integer, fold-parameter, fold-operation, fold-if, fold-call, fold-read}
@@ -84,10 +85,7 @@ pub record Fine (p : Part) (w : ℕ) : Type 0 where
   pub write : (s : Scope) → FineExpr s (p.write s) w
   pub definition : FineDefinition p w
 
-abbrev pub IsFine : Datum → Type 0
-IsFine d = Fine (part d) (weight d)
-
--- ---- a word
+-- ---- what is put together of fine parts is fine
 
 abbrev IsWordOrNone : Option ℤ → Type 0
 IsWordOrNone None = Unit {0}
@@ -96,10 +94,6 @@ IsWordOrNone (Some i) = is_word i ≡ true
 fit_by : (i : ℤ) (b : Bool) → is_word i ≡ b → IsWordOrNone (if b then Some i else None)
 fit_by i true is = is
 fit_by i false is = tt
-
-integer_by : (b : Bool) (o : Option ℤ) → IsWordOrNone o → IsWordOrNone (if b then o else None)
-integer_by true o h = h
-integer_by false o h = tt
 
 abbrev IsWithinOrNone : Option ℕ → ℕ → Type 0
 IsWithinOrNone None n = Unit {0}
@@ -121,29 +115,40 @@ parameter_fine : (s : Scope) (o : Option ℕ) → IsWithinOrNone o (length s.par
 parameter_fine s None h = tt
 parameter_fine s (Some k) h = (fold-parameter (valid_node (named s)) k ∙ lt-ltb k (length s.parameters) h, (let e = fold-parameter size_node k in omega arith))
 
-atom_fine : (s : Scope) (x : Option Expr) (o : Option ℤ) → FineExpr s x 1 → IsWordOrNone o → FineExpr s (atom_or x o) 1
-atom_fine s x None h k = h
-atom_fine s x (Some i) h k = (fold-integer (valid_node (named s)) i ∙ k, (let e = fold-integer size_node i in omega arith))
+integer_fine : (s : Scope) (o : Option ℤ) → IsWordOrNone o → FineExpr s (option_map exprs.Integer o) 1
+integer_fine s None h = tt
+integer_fine s (Some i) h = (fold-integer (valid_node (named s)) i ∙ h, (let e = fold-integer size_node i in omega arith))
 
-word_fine : (w : List ℕ) → IsFine (datum.Word w)
-word_fine w =
-    subst (λ (p : Part). Fine p (weight (datum.Word w))) (sym (fold-word part_node w)) (subst (λ (n : ℕ). Fine (part_node (Datum-F.Word w)) n) (sym (fold-word weight_node w)) (record {
-      written = omega arith;
-      words = tt;
-      expr = λ s. atom_fine s _ _ (parameter_fine s _ (number_within s.parameters w)) (integer_by (is_numeral (without_leading_sign w)) _ (fit_by (signed_digits_value 10 w) _ refl));
-      test = λ s. tt;
-      write = λ s. tt;
-      definition = record { above = 0; within = 0; head = tt; procedure = λ s. tt; all = omega arith };
-    }))
+nothing_fine : (w : ℕ) → 1 ≤ w → Fine no_part w
+nothing_fine w le = record {
+  written = le;
+  words = tt;
+  expr = λ s. tt;
+  test = λ s. tt;
+  write = λ s. tt;
+  definition = record { above = 0; within = 0; head = tt; procedure = λ s. tt; all = omega arith };
+}
 
--- ---- a list
+integer_part_fine : (names : List (List ℕ)) (i : ℤ) → Fine (part_node names (DatumKind-F.Integer i)) 1
+integer_part_fine names i = record {
+  written = omega arith;
+  words = tt;
+  expr = λ s. integer_fine s _ (fit_by i _ refl);
+  test = λ s. tt;
+  write = λ s. tt;
+  definition = record { above = 0; within = 0; head = tt; procedure = λ s. tt; all = omega arith };
+}
 
--- the parts of a list's members, and their weight
-abbrev parts : List Datum → List Part
-parts ds = map part ds
-
-abbrev IsEachFine : List Datum → Type 0
-IsEachFine = AllByRecursion IsFine
+word_fine : (o : Option (List ℕ)) → Fine (word_part o) 1
+word_fine None = nothing_fine 1 (omega arith)
+word_fine (Some w) = record {
+  written = omega arith;
+  words = tt;
+  expr = λ s. parameter_fine s _ (number_within s.parameters w);
+  test = λ s. tt;
+  write = λ s. tt;
+  definition = record { above = 0; within = 0; head = tt; procedure = λ s. tt; all = omega arith };
+}
 
 looser : (s : Scope) (x : Option Expr) (m n : ℕ) → m ≤ n → FineExpr s x m → FineExpr s x n
 looser s None m n le h = tt
@@ -155,12 +160,6 @@ operation_by_fine s o None (Some b) m n w le h k = tt
 operation_by_fine s o (Some a) None m n w le h k = tt
 operation_by_fine s o (Some a) (Some b) m n w le h k = (fold-operation (valid_node (named s)) o a b ∙ both_true h.0 k.0, (let e = fold-operation size_node o a b in omega (arith, h.1, k.1)))
 
-operation_fine : (s : Scope) (o : Operator) (ds : List Datum) (w : ℕ) → IsEachFine ds → 3 + weights ds ≤ w → FineExpr s (operation_of s o (parts ds)) w
-operation_fine s o [] w all le = tt
-operation_fine s o (a ∷ []) w all le = tt
-operation_fine s o (a ∷ b ∷ []) w all le = operation_by_fine s o _ _ (weight a) (weight b) w (omega arith) (all.0.expr s) (all.1.0.expr s)
-operation_fine s o (a ∷ b ∷ c ∷ ds) w all le = tt
-
 conditional_by_fine : (s : Scope) (t : Option Test) (x y : Option Expr) (l m n w : ℕ) → l + m + n ≤ w → FineTest s t l → FineExpr s x m → FineExpr s y n → FineExpr s (conditional_by t x y) w
 conditional_by_fine s None x y l m n w le h i j = tt
 conditional_by_fine s (Some t) None y l m n w le h i j = tt
@@ -168,25 +167,10 @@ conditional_by_fine s (Some t) (Some c) None l m n w le h i j = tt
 conditional_by_fine s (Some t) (Some c) (Some d) l m n w le h i j =
     (fold-if (valid_node (named s)) t.comparison t.left t.right c d ∙ both_true (both_true (both_true h.0 h.1) i.0) j.0, (let e = fold-if size_node t.comparison t.left t.right c d in omega (arith, h.2, i.1, j.1)))
 
-conditional_fine : (s : Scope) (ds : List Datum) (w : ℕ) → IsEachFine ds → 3 + weights ds ≤ w → FineExpr s (conditional_of s (parts ds)) w
-conditional_fine s [] w all le = tt
-conditional_fine s (t ∷ []) w all le = tt
-conditional_fine s (t ∷ c ∷ []) w all le = tt
-conditional_fine s (t ∷ c ∷ d ∷ []) w all le = conditional_by_fine s _ _ _ (weight t) (weight c) (weight d) w (omega arith) (all.0.test s) (all.1.0.expr s) (all.1.1.0.expr s)
-conditional_fine s (t ∷ c ∷ d ∷ e ∷ ds) w all le = tt
-
-read_fine : (s : Scope) (ds : List Datum) (w : ℕ) → 3 + weights ds ≤ w → FineExpr s (read_of (parts ds)) w
-read_fine s [] w le = (fold-read (valid_node (named s)), (let e = fold-read size_node in omega arith))
-read_fine s (d ∷ ds) w le = tt
-
 one_more : (s : Scope) (x : Option Expr) (xs : Option (List Expr)) (k m n : ℕ) → FineExpr s x m → FineList s xs k n → FineList s (and_also x xs) (suc k) (m + n)
 one_more s None xs k m n h i = tt
 one_more s (Some e) None k m n h i = tt
 one_more s (Some e) (Some es) k m n h i = (both_true h.0 i.0, ap suc i.1, omega (arith, h.1, i.2))
-
-operands_fine : (s : Scope) (ds : List Datum) → IsEachFine ds → FineList s (all_some (map (λ (p : Part). p.expr s) (parts ds))) (length (parts ds)) (weights ds)
-operands_fine s [] all = (refl, refl, omega arith)
-operands_fine s (d ∷ ds) all = one_more s _ _ (length (parts ds)) (weight d) (weights ds) (all.0.expr s) (operands_fine s ds all.1)
 
 abbrev IsCalledOrNone : List ℕ → ℕ → Option ℕ → Type 0
 IsCalledOrNone arities n None = Unit {0}
@@ -211,29 +195,6 @@ call_by_fine s (Some f) (Some es) n v w le h i =
     let long : length (map (valid (named s)) es) ≡ n = length-map es (valid (named s)) ∙ i.1 in
     (fold-call (valid_node (named s)) f es ∙ both_true (ap (λ (m : ℕ). has_arity m (slice_get s.arities f)) long ∙ h) i.0, (let e = fold-call size_node f es in omega (arith, i.2)))
 
-call_fine : (s : Scope) (name : List ℕ) (ds : List Datum) (w : ℕ) → IsEachFine ds → 3 + weights ds ≤ w → FineExpr s (call_of s name (parts ds)) w
-call_fine s name ds w all le =
-    call_by_fine s _ _ (length (parts ds)) (weights ds) w (omega arith)
-    (called_by s.arities (length (parts ds)) (is_some (number_of s.parameters name)) _ (with_arity_called s.arities (length (parts ds)) (number_of s.procedures name)))
-    (operands_fine s ds all)
-
-form_by_fine : (s : Scope) (name : List ℕ) (ds : List Datum) (k : Option Keyword) (w : ℕ) → IsEachFine ds → 3 + weights ds ≤ w → FineExpr s (form_by s name (parts ds) k) w
-form_by_fine s name ds None w all le = call_fine s name ds w all le
-form_by_fine s name ds (Some (keywords.Arithmetic o)) w all le = operation_fine s o ds w all le
-form_by_fine s name ds (Some keywords.If) w all le = conditional_fine s ds w all le
-form_by_fine s name ds (Some keywords.ReadByte) w all le = read_fine s ds w le
-form_by_fine s name ds (Some keywords.Define) w all le = tt
-form_by_fine s name ds (Some keywords.WriteByte) w all le = tt
-form_by_fine s name ds (Some (keywords.Compare c)) w all le = tt
-
-form_headed_fine : (s : Scope) (o : Option (List ℕ)) (ds : List Datum) (w : ℕ) → IsEachFine ds → 3 + weights ds ≤ w → FineExpr s (form_headed s o (parts ds)) w
-form_headed_fine s None ds w all le = tt
-form_headed_fine s (Some name) ds w all le = form_by_fine s name ds (keyword_of name) w all le
-
-form_fine : (s : Scope) (ds : List Datum) → IsEachFine ds → FineExpr s (form_of s (parts ds)) (2 + weights ds)
-form_fine s [] all = tt
-form_fine s (d ∷ ds) all = form_headed_fine s ((part d).word) ds (2 + weights (d ∷ ds)) all.1 (omega (arith, all.0.written))
-
 test_by_fine : (s : Scope) (k : Option Keyword) (x y : Option Expr) (m n w : ℕ) → 2 + m + n ≤ w → FineExpr s x m → FineExpr s y n → FineTest s (test_by k x y) w
 test_by_fine s None x y m n w le h i = tt
 test_by_fine s (Some (keywords.Arithmetic o)) x y m n w le h i = tt
@@ -245,13 +206,6 @@ test_by_fine s (Some (keywords.Compare c)) None y m n w le h i = tt
 test_by_fine s (Some (keywords.Compare c)) (Some a) None m n w le h i = tt
 test_by_fine s (Some (keywords.Compare c)) (Some a) (Some b) m n w le h i = (h.0, i.0, omega (arith, h.1, i.1))
 
-test_fine : (s : Scope) (ds : List Datum) → IsEachFine ds → FineTest s (test_of s (parts ds)) (2 + weights ds)
-test_fine s [] all = tt
-test_fine s (p ∷ []) all = tt
-test_fine s (p ∷ a ∷ []) all = tt
-test_fine s (p ∷ a ∷ b ∷ []) all = test_by_fine s _ _ _ (weight a) (weight b) (2 + weights (p ∷ a ∷ b ∷ [])) (omega arith) (all.1.0.expr s) (all.1.1.0.expr s)
-test_fine s (p ∷ a ∷ b ∷ c ∷ ds) all = tt
-
 write_by_fine : (s : Scope) (k : Option Keyword) (x : Option Expr) (w : ℕ) → FineExpr s x w → FineExpr s (write_by k x) w
 write_by_fine s None x w h = tt
 write_by_fine s (Some (keywords.Arithmetic o)) x w h = tt
@@ -261,14 +215,6 @@ write_by_fine s (Some keywords.Define) x w h = tt
 write_by_fine s (Some keywords.WriteByte) x w h = h
 write_by_fine s (Some (keywords.Compare c)) x w h = tt
 
-write_fine : (s : Scope) (ds : List Datum) → IsEachFine ds → FineExpr s (write_of s (parts ds)) (2 + weights ds)
-write_fine s [] all = tt
-write_fine s (p ∷ []) all = tt
-write_fine s (p ∷ e ∷ []) all = looser s _ (weight e) (2 + weights (p ∷ e ∷ [])) (omega arith) (write_by_fine s _ _ (weight e) (all.1.0.expr s))
-write_fine s (p ∷ e ∷ c ∷ ds) all = tt
-
--- ---- a definition
-
 value_by_fine : (s : Scope) (x : Option Expr) (m w : ℕ) → m ≤ w → FineExpr s x m → FineBody s (value_by x) w
 value_by_fine s None m w le h = tt
 value_by_fine s (Some e) m w le h = (tt, h.0, omega (arith, h.1))
@@ -277,11 +223,6 @@ body_by_fine : (s : Scope) (x : Option Expr) (b : Option Body) (m n w : ℕ) →
 body_by_fine s None b m n w le h i = tt
 body_by_fine s (Some e) None m n w le h i = tt
 body_by_fine s (Some e) (Some b) m n w le h i = ((h.0, i.0), i.1, omega (arith, h.1, i.2))
-
-body_fine : (s : Scope) (ds : List Datum) → IsEachFine ds → FineBody s (body_of s (parts ds)) (weights ds)
-body_fine s [] all = tt
-body_fine s (d ∷ []) all = value_by_fine s _ (weight d) (weights (d ∷ [])) (omega arith) (all.0.expr s)
-body_fine s (d ∷ e ∷ ds) all = body_by_fine s _ _ (weight d) (weights (e ∷ ds)) (weights (d ∷ e ∷ ds)) (omega arith) (all.0.write s) (body_fine s (e ∷ ds) all.1)
 
 procedure_by_fine : (s : Scope) (b : Option Body) (w : ℕ) → FineBody s b w → FineProcedure s (procedure_by s b) w
 procedure_by_fine s None w h = tt
@@ -305,40 +246,143 @@ defined_by_fine (Some keywords.Define) x w h = h
 defined_by_fine (Some keywords.WriteByte) x w h = tt
 defined_by_fine (Some (keywords.Compare c)) x w h = tt
 
-definition_fine : (ds : List Datum) → IsEachFine ds → FineDefinition (part_node (Datum-F.List (parts ds))) (2 + weights ds)
-definition_fine [] all = record { above = 0; within = 0; head = tt; procedure = λ s. tt; all = omega arith }
-definition_fine (p ∷ []) all = record { above = 0; within = 0; head = tt; procedure = λ s. tt; all = omega arith }
-definition_fine (p ∷ h ∷ ds) all = record {
-  above = weight h;
-  within = weights ds;
-  head = defined_by_fine _ _ (weight h) (head_by_fine _ (weight h) all.1.0.words);
-  procedure = λ s. procedure_by_fine s _ (weights ds) (body_fine s ds all.1.1);
-  all = omega arith;
-}
-
 next_word : (x : Option (List ℕ)) (xs : Option (List (List ℕ))) (m n : ℕ) → 1 ≤ m → FineWords xs n → FineWords (and_also x xs) (m + n)
 next_word None xs m n one h = tt
 next_word (Some w) None m n one h = tt
 next_word (Some w) (Some ws) m n one h = omega arith
 
-words_fine : (ds : List Datum) → IsEachFine ds → FineWords (all_some (map (λ (p : Part). p.word) (parts ds))) (weights ds)
-words_fine [] all = omega arith
-words_fine (d ∷ ds) all = next_word _ _ (weight d) (weights ds) all.0.written (words_fine ds all.1)
-
 more_words : (o : Option (List (List ℕ))) (n : ℕ) → FineWords o n → FineWords o (2 + n)
 more_words None n h = tt
 more_words (Some ws) n h = omega arith
 
-list_fine : (ds : List Datum) → IsEachFine ds → IsFine (datum.List ds)
-list_fine ds all =
-    subst (λ (p : Part). Fine p (weight (datum.List ds))) (sym (fold-list part_node ds)) (subst (λ (n : ℕ). Fine (part_node (Datum-F.List (parts ds))) n) (sym (fold-list weight_node ds)) (record {
-      written = omega arith;
-      words = more_words _ (weights ds) (words_fine ds all);
-      expr = λ s. form_fine s ds all;
-      test = λ s. test_fine s ds all;
-      write = λ s. write_fine s ds all;
-      definition = definition_fine ds all;
-    }))
+-- ---- data, where a table lists the names
 
-pub fine : (d : Datum) → IsFine d
-fine = induction IsFine word_fine list_fine
+module _ (names : List (List ℕ)) where
+  abbrev pub IsFine : Datum → Type 0
+  IsFine d = Fine (part names d) (weight d)
+
+  -- the parts of a list's members
+  abbrev parts : List Datum → List Part
+  parts ds = map (part names) ds
+
+  abbrev IsEachFine : List Datum → Type 0
+  IsEachFine = AllByRecursion IsFine
+
+  operation_fine : (s : Scope) (o : Operator) (ds : List Datum) (w : ℕ) → IsEachFine ds → 3 + weights ds ≤ w → FineExpr s (operation_of s o (parts ds)) w
+  operation_fine s o [] w all le = tt
+  operation_fine s o (a ∷ []) w all le = tt
+  operation_fine s o (a ∷ b ∷ []) w all le = operation_by_fine s o _ _ (weight a) (weight b) w (omega arith) (all.0.expr s) (all.1.0.expr s)
+  operation_fine s o (a ∷ b ∷ c ∷ ds) w all le = tt
+
+  conditional_fine : (s : Scope) (ds : List Datum) (w : ℕ) → IsEachFine ds → 3 + weights ds ≤ w → FineExpr s (conditional_of s (parts ds)) w
+  conditional_fine s [] w all le = tt
+  conditional_fine s (t ∷ []) w all le = tt
+  conditional_fine s (t ∷ c ∷ []) w all le = tt
+  conditional_fine s (t ∷ c ∷ d ∷ []) w all le = conditional_by_fine s _ _ _ (weight t) (weight c) (weight d) w (omega arith) (all.0.test s) (all.1.0.expr s) (all.1.1.0.expr s)
+  conditional_fine s (t ∷ c ∷ d ∷ e ∷ ds) w all le = tt
+
+  read_fine : (s : Scope) (ds : List Datum) (w : ℕ) → 3 + weights ds ≤ w → FineExpr s (read_of (parts ds)) w
+  read_fine s [] w le = (fold-read (valid_node (named s)), (let e = fold-read size_node in omega arith))
+  read_fine s (d ∷ ds) w le = tt
+
+  operands_fine : (s : Scope) (ds : List Datum) → IsEachFine ds → FineList s (all_some (map (λ (p : Part). p.expr s) (parts ds))) (length (parts ds)) (weights ds)
+  operands_fine s [] all = (refl, refl, omega arith)
+  operands_fine s (d ∷ ds) all = one_more s _ _ (length (parts ds)) (weight d) (weights ds) (all.0.expr s) (operands_fine s ds all.1)
+
+  call_fine : (s : Scope) (name : List ℕ) (ds : List Datum) (w : ℕ) → IsEachFine ds → 3 + weights ds ≤ w → FineExpr s (call_of s name (parts ds)) w
+  call_fine s name ds w all le =
+      call_by_fine s _ _ (length (parts ds)) (weights ds) w (omega arith)
+      (called_by s.arities (length (parts ds)) (is_some (number_of s.parameters name)) _ (with_arity_called s.arities (length (parts ds)) (number_of s.procedures name)))
+      (operands_fine s ds all)
+
+  form_by_fine : (s : Scope) (name : List ℕ) (ds : List Datum) (k : Option Keyword) (w : ℕ) → IsEachFine ds → 3 + weights ds ≤ w → FineExpr s (form_by s name (parts ds) k) w
+  form_by_fine s name ds None w all le = call_fine s name ds w all le
+  form_by_fine s name ds (Some (keywords.Arithmetic o)) w all le = operation_fine s o ds w all le
+  form_by_fine s name ds (Some keywords.If) w all le = conditional_fine s ds w all le
+  form_by_fine s name ds (Some keywords.ReadByte) w all le = read_fine s ds w le
+  form_by_fine s name ds (Some keywords.Define) w all le = tt
+  form_by_fine s name ds (Some keywords.WriteByte) w all le = tt
+  form_by_fine s name ds (Some (keywords.Compare c)) w all le = tt
+
+  form_headed_fine : (s : Scope) (o : Option (List ℕ)) (ds : List Datum) (w : ℕ) → IsEachFine ds → 3 + weights ds ≤ w → FineExpr s (form_headed s o (parts ds)) w
+  form_headed_fine s None ds w all le = tt
+  form_headed_fine s (Some name) ds w all le = form_by_fine s name ds (keyword_of name) w all le
+
+  form_fine : (s : Scope) (ds : List Datum) → IsEachFine ds → FineExpr s (form_of s (parts ds)) (2 + weights ds)
+  form_fine s [] all = tt
+  form_fine s (d ∷ ds) all = form_headed_fine s ((part names d).word) ds (2 + weights (d ∷ ds)) all.1 (omega (arith, all.0.written))
+
+  test_fine : (s : Scope) (ds : List Datum) → IsEachFine ds → FineTest s (test_of s (parts ds)) (2 + weights ds)
+  test_fine s [] all = tt
+  test_fine s (p ∷ []) all = tt
+  test_fine s (p ∷ a ∷ []) all = tt
+  test_fine s (p ∷ a ∷ b ∷ []) all = test_by_fine s _ _ _ (weight a) (weight b) (2 + weights (p ∷ a ∷ b ∷ [])) (omega arith) (all.1.0.expr s) (all.1.1.0.expr s)
+  test_fine s (p ∷ a ∷ b ∷ c ∷ ds) all = tt
+
+  write_fine : (s : Scope) (ds : List Datum) → IsEachFine ds → FineExpr s (write_of s (parts ds)) (2 + weights ds)
+  write_fine s [] all = tt
+  write_fine s (p ∷ []) all = tt
+  write_fine s (p ∷ e ∷ []) all = looser s _ (weight e) (2 + weights (p ∷ e ∷ [])) (omega arith) (write_by_fine s _ _ (weight e) (all.1.0.expr s))
+  write_fine s (p ∷ e ∷ c ∷ ds) all = tt
+
+  body_fine : (s : Scope) (ds : List Datum) → IsEachFine ds → FineBody s (body_of s (parts ds)) (weights ds)
+  body_fine s [] all = tt
+  body_fine s (d ∷ []) all = value_by_fine s _ (weight d) (weights (d ∷ [])) (omega arith) (all.0.expr s)
+  body_fine s (d ∷ e ∷ ds) all = body_by_fine s _ _ (weight d) (weights (e ∷ ds)) (weights (d ∷ e ∷ ds)) (omega arith) (all.0.write s) (body_fine s (e ∷ ds) all.1)
+
+  definition_fine : (ds : List Datum) → IsEachFine ds → FineDefinition (list_part (parts ds)) (2 + weights ds)
+  definition_fine [] all = record { above = 0; within = 0; head = tt; procedure = λ s. tt; all = omega arith }
+  definition_fine (p ∷ []) all = record { above = 0; within = 0; head = tt; procedure = λ s. tt; all = omega arith }
+  definition_fine (p ∷ h ∷ ds) all = record {
+    above = weight h;
+    within = weights ds;
+    head = defined_by_fine _ _ (weight h) (head_by_fine _ (weight h) all.1.0.words);
+    procedure = λ s. procedure_by_fine s _ (weights ds) (body_fine s ds all.1.1);
+    all = omega arith;
+  }
+
+  words_fine : (ds : List Datum) → IsEachFine ds → FineWords (all_some (map (λ (p : Part). p.word) (parts ds))) (weights ds)
+  words_fine [] all = omega arith
+  words_fine (d ∷ ds) all = next_word _ _ (weight d) (weights ds) all.0.written (words_fine ds all.1)
+
+  list_fine : (ds : List Datum) → IsEachFine ds → Fine (list_part (parts ds)) (2 + weights ds)
+  list_fine ds all = record {
+    written = omega arith;
+    words = more_words _ (weights ds) (words_fine ds all);
+    expr = λ s. form_fine s ds all;
+    test = λ s. test_fine s ds all;
+    write = λ s. write_fine s ds all;
+    definition = definition_fine ds all;
+  }
+
+  -- what a kind is, and how large
+  abbrev kind_part : DatumKind → Part
+  kind_part = fold-DatumKind Part Part (part_node names) (λ d. d.kind)
+
+  abbrev kind_weight : DatumKind → ℕ
+  kind_weight = fold-DatumKind ℕ ℕ weight_node (λ d. d.kind)
+
+  abbrev IsFineKind : DatumKind → Type 0
+  IsFineKind x = Fine (kind_part x) (kind_weight x)
+
+  fine_by : (x : DatumKind) (p : Part) (w : ℕ) → kind_part x ≡ p → kind_weight x ≡ w → Fine p w → IsFineKind x
+  fine_by x p w is_part is_weight is = subst (λ (q : Part). Fine q (kind_weight x)) (sym is_part) (subst (λ (n : ℕ). Fine p n) (sym is_weight) is)
+
+  datum_fine : (p : Place) (x : DatumKind) → IsFineKind x → IsFine (trees.datum_at p x)
+  datum_fine p x is =
+      subst (λ (q : Part). Fine q (weight (trees.datum_at p x))) (sym (trees.fold-datum (part_node names) (λ d. d.kind) p x)) (subst (λ (n : ℕ). Fine (kind_part x) n) (sym (trees.fold-datum weight_node (λ d. d.kind) p x)) is)
+
+  pub fine : (d : Datum) → IsFine d
+  fine =
+      trees.induction
+      IsFineKind
+      IsFine
+      (λ b. fine_by (k.Boolean b) no_part 1 (trees.fold-boolean (part_node names) (λ d. d.kind) b) (trees.fold-boolean weight_node (λ d. d.kind) b) (nothing_fine 1 (omega arith)))
+      (λ i. fine_by (k.Integer i) (part_node names (DatumKind-F.Integer i)) 1 (trees.fold-integer (part_node names) (λ d. d.kind) i) (trees.fold-integer weight_node (λ d. d.kind) i) (integer_part_fine names i))
+      (λ c. fine_by (k.Char c) no_part 1 (trees.fold-char (part_node names) (λ d. d.kind) c) (trees.fold-char weight_node (λ d. d.kind) c) (nothing_fine 1 (omega arith)))
+      (λ bytes. fine_by (k.Text bytes) no_part 1 (trees.fold-text (part_node names) (λ d. d.kind) bytes) (trees.fold-text weight_node (λ d. d.kind) bytes) (nothing_fine 1 (omega arith)))
+      (λ n. fine_by (k.Symbol n) (word_part (slice_get names n.0)) 1 (trees.fold-symbol (part_node names) (λ d. d.kind) n) (trees.fold-symbol weight_node (λ d. d.kind) n) (word_fine (slice_get names n.0)))
+      (λ ds all. fine_by (k.List ds) (list_part (parts ds)) (2 + weights ds) (trees.fold-list (part_node names) (λ d. d.kind) ds) (trees.fold-list weight_node (λ d. d.kind) ds) (list_fine ds all))
+      (λ ds d all h. fine_by (k.Dotted ds d) no_part (3 + weights ds + weight d) (trees.fold-dotted (part_node names) (λ d. d.kind) ds d) (trees.fold-dotted weight_node (λ d. d.kind) ds d) (nothing_fine (3 + weights ds + weight d) (omega arith)))
+      (λ ds all. fine_by (k.Vector ds) no_part (2 + weights ds) (trees.fold-vector (part_node names) (λ d. d.kind) ds) (trees.fold-vector weight_node (λ d. d.kind) ds) (nothing_fine (2 + weights ds) (omega arith)))
+      datum_fine

@@ -10,3 +10,8 @@ pub mod Soundness
 pub mod Bounds
 pub mod Fine
 pub mod Programs
+pub mod Clear
+pub mod Distinct
+pub mod Positions
+pub mod Steady
+pub mod FaultsFound

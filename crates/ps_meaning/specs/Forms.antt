@@ -1,14 +1,13 @@
--- Which data are a program (R5RS 4.1, 5.2 and 7.1.1, in this project's profile): how a datum reads in each position that it
+-- Which data are a program (R5RS 4.1 and 5.2, in this project's profile): how a datum reads in each position that it
 -- may stand in, and the conditions on names.
-use Rattle.std.specs.Prelude.{◌≡◌, ℕ, ℤ, ◌≤◌, List, [], ◌∷◌, ◌++◌, length, map, take, drop, Bool, false, not, if◌then◌else◌, nat_eq, nat_lt, ◌||◌, ◌&&◌, Option, Some, None, is_some, codes, slice_get}
+use Rattle.std.specs.Prelude.{◌≡◌, ℕ, ◌≤◌, List, [], ◌∷◌, ◌++◌, length, map, Bool, false, not, if◌then◌else◌, nat_eq, Option, Some, None, is_some, codes, slice_get}
 use Rattle.std.specs.Option.{option_map}
-use Rattle.std.specs.List.{AllByRecursion, list_any, list_all}
+use Rattle.std.specs.List.{AllByRecursion, list_all}
 use Rattle.std.specs.Str.{bytes_eq}
-use Rattle.std.specs.Str.Parse.{without_leading_sign, signed_digits_value}
 use Rattle.ps_base.specs.Names.{AreDistinct, number_of}
 use Rattle.ps_base.specs.Numbers.{fit}
 use Rattle.ps_datum.specs.declared.datum.Datum.{Datum, fold-Datum}
-use Rattle.ps_datum.specs.declared.datum.Datum.TheOpen.{Datum-F}
+use Rattle.ps_datum.specs.declared.datum.DatumKind.TheOpen.{DatumKind-F}
 use Rattle.ps_meaning.specs.declared.program.Operator.{Operator}
 use Rattle.ps_meaning.specs.declared.program.Operator.TheVariants as operators
 use Rattle.ps_meaning.specs.declared.program.Comparison.{Comparison}
@@ -20,29 +19,7 @@ use Rattle.ps_meaning.specs.declared.program.Expr.TheVariants as exprs
 use Rattle.ps_meaning.specs.declared.program.Procedure.{Procedure}
 use Rattle.ps_meaning.specs.declared.program.Program.{Program}
 
--- ---- words. Letters are small ones.
-
-abbrev pub is_digit : ℕ → Bool
-is_digit b = nat_lt 47 b && nat_lt b 58
-
-abbrev pub is_letter : ℕ → Bool
-is_letter b = nat_lt 96 b && nat_lt b 123
-
-abbrev pub is_initial : ℕ → Bool
-is_initial b = is_letter b || list_any (nat_eq b) (codes "!$%&*/:<=>?^_~")
-
-abbrev pub is_subsequent : ℕ → Bool
-is_subsequent b = is_initial b || is_digit b || list_any (nat_eq b) (codes "+-.@")
-
-abbrev pub begins_with_initial : List ℕ → Bool
-begins_with_initial [] = false
-begins_with_initial (b ∷ bs) = is_initial b && list_all is_subsequent bs
-
-abbrev pub begins_with_arrow : List ℕ → Bool
-begins_with_arrow w = bytes_eq (take 2 w) (codes "->") && list_all is_subsequent (drop 2 w)
-
-abbrev pub is_identifier : List ℕ → Bool
-is_identifier w = bytes_eq w (codes "+") || bytes_eq w (codes "-") || bytes_eq w (codes "...") || begins_with_arrow w || begins_with_initial w
+-- ---- words
 
 -- the meaning of its own that a word has
 abbrev pub keyword_of : List ℕ → Option Keyword
@@ -60,14 +37,7 @@ keyword_of w =
 
 -- a name is an identifier without a meaning of its own
 abbrev pub is_name : List ℕ → Bool
-is_name w = is_identifier w && not (is_some (keyword_of w))
-
-abbrev pub is_numeral : List ℕ → Bool
-is_numeral ds = nat_lt 0 (length ds) && list_all is_digit ds
-
--- an optional sign and decimal digits are an integer, which has 64 bits
-abbrev pub integer_of : List ℕ → Option ℤ
-integer_of w = if is_numeral (without_leading_sign w) then fit (signed_digits_value 10 w) else None
+is_name w = not (is_some (keyword_of w))
 
 -- ---- what names stand for
 
@@ -78,16 +48,9 @@ pub record Scope : Type 0 where
   pub procedures : List (List ℕ)
   pub arities : List ℕ
 
--- a word that stands alone is an integer, or a parameter
+-- an identifier that stands alone is a parameter
 abbrev pub parameter_of : Scope → List ℕ → Option Expr
 parameter_of s w = option_map exprs.Parameter (number_of s.parameters w)
-
-abbrev pub atom_or : Option Expr → Option ℤ → Option Expr
-atom_or other None = other
-atom_or other (Some i) = Some (exprs.Integer i)
-
-abbrev pub atom_of : Scope → List ℕ → Option Expr
-atom_of s w = atom_or (parameter_of s w) (integer_of w)
 
 abbrev pub has_arity : ℕ → Option ℕ → Bool
 has_arity n None = false
@@ -244,17 +207,25 @@ abbrev pub procedure_of : Scope → List Part → Option Procedure
 procedure_of s (p ∷ h ∷ body) = procedure_by s (body_of s body)
 procedure_of s _ = None
 
-abbrev pub part_node : Datum-F Part → Part
-part_node (Datum-F.Word w) = record {
-  word = Some w;
+-- what stands in none of these positions
+abbrev pub no_part : Part
+no_part = record {
+  word = None;
   words = None;
-  expr = λ s. atom_of s w;
+  expr = λ s. None;
   test = λ s. None;
   write = λ s. None;
   head = None;
   procedure = λ s. None;
 }
-part_node (Datum-F.List ps) = record {
+
+-- an identifier, by its text
+abbrev pub word_part : Option (List ℕ) → Part
+word_part None = no_part
+word_part (Some w) = record no_part { word = Some w; expr = λ s. parameter_of s w }
+
+abbrev pub list_part : List Part → Part
+list_part ps = record {
   word = None;
   words = all_some (map (λ (p : Part). p.word) ps);
   expr = λ s. form_of s ps;
@@ -264,14 +235,25 @@ part_node (Datum-F.List ps) = record {
   procedure = λ s. procedure_of s ps;
 }
 
-abbrev pub part : Datum → Part
-part = fold-Datum Part part_node
+-- what a datum is, where a table lists the names
+abbrev pub part_node : List (List ℕ) → DatumKind-F Part Part → Part
+part_node names (DatumKind-F.Boolean b) = no_part
+part_node names (DatumKind-F.Integer i) = record no_part { expr = λ s. option_map exprs.Integer (fit i) }
+part_node names (DatumKind-F.Char c) = no_part
+part_node names (DatumKind-F.Text bytes) = no_part
+part_node names (DatumKind-F.Symbol n) = word_part (slice_get names n.0)
+part_node names (DatumKind-F.List ps) = list_part ps
+part_node names (DatumKind-F.Dotted ps p) = no_part
+part_node names (DatumKind-F.Vector ps) = no_part
+
+abbrev pub part : List (List ℕ) → Datum → Part
+part names = fold-Datum Part Part (part_node names) (λ d. d.kind)
 
 -- ---- programs
 
 -- the heads of definitions
-abbrev pub heads_of : List Datum → Option (List Head)
-heads_of ds = all_some (map (λ d. (part d).head) ds)
+abbrev pub heads_of : List (List ℕ) → List Datum → Option (List Head)
+heads_of names ds = all_some (map (λ d. (part names d).head) ds)
 
 abbrev pub names_in : List Head → List (List ℕ)
 names_in hs = map (λ h. h.name) hs
@@ -284,10 +266,10 @@ abbrev pub scope_in : List Head → Head → Scope
 scope_in heads h = record { parameters = h.parameters; procedures = names_in heads; arities = arities_in heads }
 
 -- the procedures of definitions, whose heads are among these
-abbrev pub procedures_in : List Head → List Head → List Datum → Option (List Procedure)
-procedures_in heads [] [] = Some []
-procedures_in heads (h ∷ hs) (d ∷ ds) = and_also ((part d).procedure (scope_in heads h)) (procedures_in heads hs ds)
-procedures_in heads _ _ = None
+abbrev pub procedures_in : List (List ℕ) → List Head → List Head → List Datum → Option (List Procedure)
+procedures_in names heads [] [] = Some []
+procedures_in names heads (h ∷ hs) (d ∷ ds) = and_also ((part names d).procedure (scope_in heads h)) (procedures_in names heads hs ds)
+procedures_in names heads _ _ = None
 
 abbrev pub main_head : Head
 main_head = record { name = codes "main"; parameters = [] }
@@ -297,16 +279,16 @@ pub record IsHead (h : Head) : Type 0 where
   pub distinct : AreDistinct h.parameters
   pub few : length h.parameters ≤ 127
 
--- Definitions are a program where there is one of `main`, without parameters, no name is defined twice, and the names in
+-- Definitions, where a table lists the names, are a program where there is one of `main`, without parameters, no name is defined twice, and the names in
 -- them stand for something. `main` is the first procedure, and the others follow in their order.
-pub record IsProgram (definitions : List Datum) (p : Program) : Type 0 where
+pub record IsProgram (names : List (List ℕ)) (definitions : List Datum) (p : Program) : Type 0 where
   pub before : List Datum
   pub main : Datum
   pub after : List Datum
   pub form : definitions ≡ before ++ main ∷ after
   pub heads : List Head
-  pub are_heads : heads_of (main ∷ (before ++ after)) ≡ Some heads
-  pub is_main : (part main).head ≡ Some main_head
+  pub are_heads : heads_of names (main ∷ (before ++ after)) ≡ Some heads
+  pub is_main : (part names main).head ≡ Some main_head
   pub distinct : AreDistinct (names_in heads)
   pub parameters : AllByRecursion IsHead heads
-  pub procedures : procedures_in heads heads (main ∷ (before ++ after)) ≡ Some p.procedures
+  pub procedures : procedures_in names heads heads (main ∷ (before ++ after)) ≡ Some p.procedures

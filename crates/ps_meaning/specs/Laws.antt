@@ -1,11 +1,12 @@
 -- Laws of the source's definitions.
-use Rattle.std.specs.Prelude.{◌≡◌, ℕ, ℤ, ◌≤◌, List}
+use Rattle.std.specs.Prelude.{◌≡◌, ℕ, ℤ, ◌≤◌, List, None, ◌↔◌}
 use Rattle.ps_base.specs.Agree.{KeepsWhatItHas, IsSoundRun}
 use Rattle.ps_base.specs.Worlds.{Surroundings}
 use Rattle.ps_datum.specs.declared.datum.Datum.{Datum}
 use Rattle.ps_datum.specs.Weight.{weights}
 use Rattle.ps_meaning.specs.declared.program.Program.{Program}
 use Rattle.ps_meaning.specs.Forms.{IsProgram}
+use Rattle.ps_meaning.specs.Faults.{fault_of}
 use Rattle.ps_meaning.specs.Valid.{IsValid}
 use Rattle.ps_meaning.specs.Size.{program_size}
 use Rattle.ps_meaning.specs.Run.{State}
@@ -23,7 +24,11 @@ abbrev pub ProgramIsSound : Type 0
 ProgramIsSound = (p : Program) (w : Surroundings) → IsValid p → IsSoundRun (Source p w)
 
 abbrev pub ProgramIsValid : Type 0
-ProgramIsValid = (ds : List Datum) (p : Program) → IsProgram ds p → IsValid p × (program_size p ≤ weights ds)
+ProgramIsValid = (names : List (List ℕ)) (ds : List Datum) (p : Program) → IsProgram names ds p → IsValid p × (program_size p ≤ weights ds)
 
 abbrev pub DataHaveOneProgram : Type 0
-DataHaveOneProgram = (ds : List Datum) (p q : Program) → IsProgram ds p → IsProgram ds q → p ≡ q
+DataHaveOneProgram = (names : List (List ℕ)) (ds : List Datum) (p q : Program) → IsProgram names ds p → IsProgram names ds q → p ≡ q
+
+-- data have no fault exactly where they are a program
+abbrev pub FaultsTellPrograms : Type 0
+FaultsTellPrograms = (names : List (List ℕ)) (ds : List Datum) → (fault_of names ds ≡ None) ↔ ((p : Program) × IsProgram names ds p)

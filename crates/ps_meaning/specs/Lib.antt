@@ -3,4 +3,5 @@ pub mod Valid
 pub mod Size
 pub mod Run
 pub mod Meaning
+pub mod Faults
 pub mod Laws

@@ -1,6 +1,6 @@
 //! Laws of the definitions. Each is the contract of a function that does nothing.
 
-ghost use Rattle.ps_meaning.specs.Laws.{CallsEnterProcedures, DataHaveOneProgram, LargerBoundKeeps, ProgramIsSound, ProgramIsValid};
+ghost use Rattle.ps_meaning.specs.Laws.{CallsEnterProcedures, DataHaveOneProgram, FaultsTellPrograms, LargerBoundKeeps, ProgramIsSound, ProgramIsValid};
 
 /// A call with no more calls left than the bound does what entering its procedure does, where calls do the same: the bound on
 /// nesting is never met before the calls that are left.
@@ -26,4 +26,9 @@ pub fn program_is_valid()
 /// Data are one program, whichever definition of `main` is taken out of its place.
 pub fn data_have_one_program()
     ensures { DataHaveOneProgram }
+{}
+
+/// Data have no fault exactly where they are a program.
+pub fn faults_tell_programs()
+    ensures { FaultsTellPrograms }
 {}

@@ -8,7 +8,7 @@ mod laws;
 mod program;
 
 pub use laws::{
-    calls_enter_procedures, data_have_one_program, larger_bound_keeps, program_is_sound,
-    program_is_valid,
+    calls_enter_procedures, data_have_one_program, faults_tell_programs, larger_bound_keeps,
+    program_is_sound, program_is_valid,
 };
 pub use program::{Comparison, Expr, Keyword, Operator, Procedure, Program};

@@ -1,2 +1,14 @@
-mod Tokens
-mod Levels
+pub mod Booleans
+pub mod Integers
+pub mod Tables
+pub mod Runs
+pub mod Sound
+pub mod FirstBreaches
+pub mod Texts
+pub mod Clauses
+pub mod Parts
+pub mod Fits
+pub mod AgainTexts
+pub mod Atoms
+pub mod Back
+pub mod Identifiers

@@ -1,6 +1,8 @@
-pub mod Tokens
-pub mod Reads
-pub mod Refusals
-pub mod Lexing
-pub mod Levels
+pub mod Grammar
+pub mod Breaches
+pub mod Machine
+pub mod First
+pub mod Lexical
+pub mod Reading
 pub mod Laws
+pub mod Again

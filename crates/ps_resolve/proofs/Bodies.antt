@@ -1,17 +1,16 @@
 -- Bodies: the writes before the value.
-use Rattle.std.proofs.Common.{◌≡◌, ℕ, List, [], ◌∷◌, ◌++◌, map, length, Some, None, refl, sym, ap, ◌∙◌}
+use Rattle.std.proofs.Common.{◌≡◌, ℕ, List, [], ◌∷◌, ◌++◌, map, length, Some, None, refl, sym, ap, ◌∙◌, get_or, arith}
 use Rattle.std.specs.Prelude.{Option}
 use Rattle.std.proofs.lemmas.List.{map-append}
 use Rattle.ps_datum.specs.declared.datum.Datum.{Datum}
 use Rattle.ps_meaning.specs.declared.program.Expr.{Expr}
 use Rattle.ps_meaning.specs.declared.program.Procedure.{Procedure}
-use Rattle.ps_meaning.specs.Forms.{Scope, Part, part, Body, all_some, and_also, body_of, body_by, value_by, procedure_by}
+use Rattle.ps_meaning.specs.Forms.{Scope, Part, part, Body, all_some, and_also, body_of, body_by, conditional_by, conditional_of, value_by, procedure_by}
 use Rattle.ps_resolve.specs.declared.program.Unresolved.{Unresolved}
 use Rattle.ps_resolve.specs.declared.program.Unresolved.TheVariants.{NotProgram, NoMemory}
 use Rattle.ps_resolve.specs.Refusals.{RefusesBy}
 use Rattle.ps_resolve.specs.Definitions.{procedure_at}
 
--- a body of writes and a value
 abbrev whole : Option (List Expr) → Option Expr → Option Body
 whole (Some ws) (Some e) = Some (record { writes = ws; value = e })
 whole _ _ = None
@@ -26,31 +25,36 @@ one_write (Some w) None e = refl
 one_write (Some w) (Some ws) None = refl
 one_write (Some w) (Some ws) (Some e) = refl
 
--- a body is its writes and the value behind them
 body_is : (s : Scope) (ps : List Part) (q : Part) → body_of s (ps ++ q ∷ []) ≡ whole (all_some (map (λ (p : Part). p.write s) ps)) (q.expr s)
 body_is s [] q = no_writes (q.expr s)
 body_is s (p ∷ []) q = ap (body_by (p.write s)) (body_is s [] q) ∙ one_write (p.write s) (Some []) (q.expr s)
 body_is s (p ∷ r ∷ ps) q = ap (body_by (p.write s)) (body_is s (r ∷ ps) q) ∙ one_write (p.write s) (all_some (map (λ (p : Part). p.write s) (r ∷ ps))) (q.expr s)
 
--- a procedure with so many parameters
 abbrev with_parameters : ℕ → List Expr → Expr → Option Procedure
 with_parameters n ws e = Some (record { parameters = n; writes = ws; value = e })
 
--- a body is read, or refused by its writes or its value
-module _ (s : Scope) (body front : List Datum) (last : Datum) (is : body ≡ front ++ last ∷ []) where
-  parts_are : body_of s (map part body) ≡ whole (all_some (map (λ (p : Part). p.write s) (map part front))) ((part last).expr s)
-  parts_are = ap (λ z. body_of s (map part z)) is ∙ ap (body_of s) (map-append part front (last ∷ [])) ∙ body_is s (map part front) (part last)
+module _ (names : List (List ℕ)) (s : Scope) (body front : List Datum) (last : Datum) (is : body ≡ front ++ last ∷ []) where
+  parts_are : body_of s (map (part names) body) ≡ whole (all_some (map (λ (p : Part). p.write s) (map (part names) front))) ((part names last).expr s)
+  parts_are = ap (λ z. body_of s (map (part names) z)) is ∙ ap (body_of s) (map-append (part names) front (last ∷ [])) ∙ body_is s (map (part names) front) (part names last)
 
-  pub refuses_writes : (e : Unresolved) → RefusesBy e (all_some (map (λ (p : Part). p.write s) (map part front))) → RefusesBy e (procedure_at s body)
-  refuses_writes NotProgram h = ap (procedure_by s) (parts_are ∙ ap (λ ws. whole ws ((part last).expr s)) h)
+  pub refuses_writes : (e : Unresolved) → RefusesBy e (all_some (map (λ (p : Part). p.write s) (map (part names) front))) → RefusesBy e (procedure_at names s body)
+  refuses_writes NotProgram h = ap (procedure_by s) (parts_are ∙ ap (λ ws. whole ws ((part names last).expr s)) h)
   refuses_writes NoMemory h = tt
 
-  module _ (ws : List Expr) (writes : all_some (map (λ (p : Part). p.write s) (map part front)) ≡ Some ws) where
-    pub refuses_value : (e : Unresolved) → RefusesBy e ((part last).expr s) → RefusesBy e (procedure_at s body)
+  module _ (ws : List Expr) (writes : all_some (map (λ (p : Part). p.write s) (map (part names) front)) ≡ Some ws) where
+    pub refuses_value : (e : Unresolved) → RefusesBy e ((part names last).expr s) → RefusesBy e (procedure_at names s body)
     refuses_value NotProgram h = ap (procedure_by s) (parts_are ∙ (λ i. whole (writes i) (h i)))
     refuses_value NoMemory h = tt
 
-    pub whole_procedure : (e : Expr) (n : ℕ) → (part last).expr s ≡ Some e → n ≡ length s.parameters → procedure_at s body ≡ Some (record { parameters = n; writes = ws; value = e })
+    pub whole_procedure : (e : Expr) (n : ℕ) → (part names last).expr s ≡ Some e → n ≡ length s.parameters → procedure_at names s body ≡ Some (record { parameters = n; writes = ws; value = e })
     whole_procedure e n h m =
         ap (procedure_by s) (parts_are ∙ (λ i. whole (writes i) (h i)))
         ∙ ap (λ k. with_parameters k ws e) (sym m)
+
+-- a conditional of three parts
+pub conditional_is : (names : List (List ℕ)) (s : Scope) (ds : List Datum) (t c d : Datum) → length ds ≡ 3 → t ≡ get_or ds 0 t → c ≡ get_or ds 1 c → d ≡ get_or ds 2 d → conditional_of s (map (part names) ds) ≡ conditional_by ((part names t).test s) ((part names c).expr s) ((part names d).expr s)
+conditional_is names s [] t c d long a b e = absurd (omega arith)
+conditional_is names s (x ∷ []) t c d long a b e = absurd (omega arith)
+conditional_is names s (x ∷ y ∷ []) t c d long a b e = absurd (omega arith)
+conditional_is names s (x ∷ y ∷ z ∷ []) t c d long a b e = sym (λ i. conditional_by ((part names (a i)).test s) ((part names (b i)).expr s) ((part names (e i)).expr s))
+conditional_is names s (x ∷ y ∷ z ∷ w ∷ ds) t c d long a b e = absurd (omega arith)

@@ -1,9 +1,15 @@
 pub mod Options
 pub mod Refusals
-pub mod Integers
 pub mod Bodies
 pub mod Heads
 pub mod Parameters
 pub mod Mains
 pub mod Definitions
 pub mod Programs
+pub mod FaultBodies
+pub mod FaultTables
+pub mod FaultHeads
+pub mod FaultScopes
+pub mod FaultParameters
+pub mod FaultProcedures
+pub mod FaultForms

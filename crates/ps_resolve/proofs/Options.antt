@@ -6,21 +6,18 @@ use Rattle.std.proofs.lemmas.Simd.{map-map}
 use Rattle.ps_meaning.specs.Forms.{all_some, and_also}
 use Rattle.ps_meaning.proofs.Lists.{joined}
 
--- as many as the options
 pub length-all_some : {A : Type 0} (xs : List (Option A)) (ys : List A) → all_some xs ≡ Some ys → length xs ≡ length ys
 length-all_some [] ys h = let e : ys ≡ [] = cc in ap length (sym e)
 length-all_some (x ∷ xs) ys h =
     let p = joined x (all_some xs) ys h in
     ap (λ n. suc n) (length-all_some xs p.rest p.is_rest) ∙ ap length (sym p.is)
 
--- one more that holds something
 all_some-push : {A : Type 0} (xs : List (Option A)) (done : List A) (y : A) → all_some xs ≡ Some done → all_some (xs ++ Some y ∷ []) ≡ Some (done ++ y ∷ [])
 all_some-push [] done y h = let e : done ≡ [] = cc in ap (λ z. Some (z ++ y ∷ [])) (sym e)
 all_some-push (x ∷ xs) done y h =
     let p = joined x (all_some xs) done h in
     (λ i. and_also (p.is_first i) (all_some-push xs p.rest y p.is_rest i)) ∙ ap (λ z. Some (z ++ y ∷ [])) (sym p.is)
 
--- one that holds nothing
 all_some-none : {A : Type 0} (xs zs : List (Option A)) → all_some (xs ++ None ∷ zs) ≡ None
 all_some-none [] zs = refl
 all_some-none (None ∷ xs) zs = refl

@@ -7,7 +7,6 @@ use Rattle.ps_resolve.specs.declared.program.Unresolved.TheVariants.{NotProgram,
 use Rattle.ps_resolve.specs.Refusals.{RefusesBy, IsNotProgram}
 use Rattle.ps_resolve.proofs.Options.{fails, one_fails}
 
--- one that is refused refuses all
 pub refuses_all : {A B C : Type 0} (f : A → B) (g : B → Option C) (ds : List A) (i : ℕ) (d : A) (e : Unresolved) → i < length ds → d ≡ get_or ds i d → RefusesBy e (g (f d)) → RefusesBy e (all_some (map g (map f ds)))
 refuses_all f g ds i d NotProgram within is h = one_fails f g ds i d within is h
 refuses_all f g ds i d NoMemory within is h = tt

@@ -12,7 +12,7 @@ use crate::program::Unresolved;
 use crate::scope::Scope;
 use crate::words::{is, is_name};
 use ps_base::{Items, Names};
-use ps_datum::Datum;
+use ps_datum::{Datum, DatumKind};
 use ps_meaning::{Expr, Keyword, Procedure};
 use std::alloc::Global;
 
@@ -28,45 +28,45 @@ pub(crate) struct Definition<'a> {
 }
 
 // The data between the brackets of the head of a definition, and its body.
-fn head(form: &Datum) -> Option<(&[Datum], &[Datum])>
-    ensures { MatchOption result ((part form.now).head ≡ None) (λ r. IsDefine form.now r.0.now r.1.now) }
+fn head<'a>(names: &Names, form: &'a Datum) -> Option<(&'a [Datum], &'a [Datum])>
+    ensures { MatchOption result ((part names.now form.now).head ≡ None) (λ r. IsDefine names.now form.now r.0.now r.1.now) }
 {
-    let Datum::List(parts) = form else {
+    let DatumKind::List(parts) = &form.kind else {
         return None;
     };
     let [first, head, body @ ..] = parts.as_slice() else {
         return None;
     };
-    let Some(Keyword::Define) = keyword(first) else {
+    let Some(Keyword::Define) = keyword(names, first) else {
         return None;
     };
-    match head {
-        Datum::List(names) => Some((names.as_slice(), body)),
-        Datum::Word(_) => None,
-    }
+    let DatumKind::List(words) = &head.kind else {
+        return None;
+    };
+    Some((words.as_slice(), body))
 }
 
 // The form is a definition of `main`, without parameters.
-pub(crate) fn is_main(form: &Datum) -> bool
-    ensures { IsTrue result ↔ ((part form.now).head ≡ Some main_head) }
+pub(crate) fn is_main(names: &Names, form: &Datum) -> bool
+    ensures { IsTrue result ↔ ((part names.now form.now).head ≡ Some main_head) }
 {
-    let Some((names, _)) = head(form) else {
+    let Some((words, _)) = head(names, form) else {
         return false;
     };
-    let [name] = names else {
+    let [name] = words else {
         return false;
     };
-    match word(name) {
+    match word(names, name) {
         Some(name) => is(name, b"main"),
         None => false,
     }
 }
 
 // The name that a datum is.
-fn name(datum: &Datum) -> Option<&[u8]>
-    ensures { MatchOption result ((w : List ℕ) → (part datum.now).word ≡ Some w → is_name w ≡ false) (λ w. ((part datum.now).word ≡ Some w.now) × (is_name w.now ≡ true)) }
+fn name<'a>(names: &'a Names, datum: &Datum) -> Option<&'a [u8]>
+    ensures { MatchOption result ((w : List ℕ) → (part names.now datum.now).word ≡ Some w → is_name w ≡ false) (λ w. ((part names.now datum.now).word ≡ Some w.now) × (is_name w.now ≡ true)) }
 {
-    let name = word(datum)?;
+    let name = word(names, datum)?;
     if is_name(name) { Some(name) } else { None }
 }
 
@@ -85,13 +85,13 @@ pub(crate) fn add_new(names: &mut Names, name: &[u8]) -> Result<(), Unresolved>
 }
 
 // The different names of the parameters.
-fn parameters(alloc: Global, words: &[Datum]) -> Result<Names, Unresolved>
-    ensures read { IfOk result (λ names. AreParameters words.now names) }
-    ensures unread { IsUnresolved result → (names : List (List ℕ)) → AreParameters words.now names → ⊥ }
+fn parameters(alloc: Global, names: &Names, words: &[Datum]) -> Result<Names, Unresolved>
+    ensures read { IfOk result (λ parameters. AreParameters names.now words.now parameters) }
+    ensures unread { IsUnresolved result → (parameters : List (List ℕ)) → AreParameters names.now words.now parameters → ⊥ }
 {
     let mut parameters = Names::new(alloc);
     for datum in words {
-        let Some(name) = name(datum) else {
+        let Some(name) = name(names, datum) else {
             return Err(Unresolved::NotProgram);
         };
         if parameters.len() >= PARAMETERS {
@@ -103,17 +103,21 @@ fn parameters(alloc: Global, words: &[Datum]) -> Result<Names, Unresolved>
 }
 
 // The definition that a form is, with its head read.
-pub(crate) fn read_definition(alloc: Global, form: &Datum) -> Result<Definition<'_>, Unresolved>
-    ensures read { IfOk result (λ x. IsDefinition form.now x) }
-    ensures unread { IsUnresolved result → (h : Head) → (part form.now).head ≡ Some h → IsHead h → ⊥ }
+pub(crate) fn read_definition<'a>(
+    alloc: Global,
+    names: &'a Names,
+    form: &'a Datum,
+) -> Result<Definition<'a>, Unresolved>
+    ensures read { IfOk result (λ x. IsDefinition names.now form.now x) }
+    ensures unread { IsUnresolved result → (h : Head) → (part names.now form.now).head ≡ Some h → IsHead h → ⊥ }
 {
-    let Some(([first, rest @ ..], body)) = head(form) else {
+    let Some(([first, rest @ ..], body)) = head(names, form) else {
         return Err(Unresolved::NotProgram);
     };
-    let Some(name) = name(first) else {
+    let Some(name) = name(names, first) else {
         return Err(Unresolved::NotProgram);
     };
-    let parameters = parameters(alloc, rest)?;
+    let parameters = parameters(alloc, names, rest)?;
     Ok(Definition {
         name,
         parameters,
@@ -123,15 +127,15 @@ pub(crate) fn read_definition(alloc: Global, form: &Datum) -> Result<Definition<
 
 // The expression whose value a form writes as a byte.
 fn write(alloc: Global, scope: &Scope<'_>, datum: &Datum) -> Result<Expr, Unresolved>
-    ensures { IsRead result ((part datum.now).write (scope_of scope.now)) }
+    ensures { IsRead result ((part scope.now.names.now datum.now).write (scope_of scope.now)) }
 {
-    let Datum::List(parts) = datum else {
+    let DatumKind::List(parts) = &datum.kind else {
         return Err(Unresolved::NotProgram);
     };
     let [first, value] = parts.as_slice() else {
         return Err(Unresolved::NotProgram);
     };
-    let Some(Keyword::WriteByte) = keyword(first) else {
+    let Some(Keyword::WriteByte) = keyword(scope.names, first) else {
         return Err(Unresolved::NotProgram);
     };
     expr(alloc, scope, value)
@@ -139,7 +143,7 @@ fn write(alloc: Global, scope: &Scope<'_>, datum: &Datum) -> Result<Expr, Unreso
 
 // The expressions whose values these forms write.
 fn writes(alloc: Global, scope: &Scope<'_>, forms: &[Datum]) -> Result<Items<Expr>, Unresolved>
-    ensures { IsRead result (all_some (map (λ (p : Part). p.write (scope_of scope.now)) (map part forms.now))) }
+    ensures { IsRead result (all_some (map (λ (p : Part). p.write (scope_of scope.now)) (map (part scope.now.names.now) forms.now))) }
 {
     let mut writes = Items::new(alloc);
     for form in forms {
@@ -154,7 +158,7 @@ pub(crate) fn procedure(
     scope: &Scope<'_>,
     body: &[Datum],
 ) -> Result<Procedure, Unresolved>
-    ensures { IsRead result (procedure_at (scope_of scope.now) body.now) }
+    ensures { IsRead result (procedure_at scope.now.names.now (scope_of scope.now) body.now) }
 {
     let Some((last, front)) = body.split_last() else {
         return Err(Unresolved::NotProgram);

@@ -1,15 +1,15 @@
 //! Expressions.
 
-ghost use Rattle.std.specs.Prelude.{◌≡◌, map, MatchOption, None, Some};
+ghost use Rattle.std.specs.Prelude.{◌≡◌, ℕ, List, map, MatchOption, None, Some};
 ghost use Rattle.ps_meaning.specs.Forms.{Part, part, keyword_of, keyword_in, form_by, operation_of, conditional_of, call_of, read_of, all_some};
 ghost use Rattle.ps_resolve.specs.Refusals.{IsRead, IsReadAs};
 ghost use Rattle.ps_resolve.specs.Values.{scope_of, test_of};
 
 use crate::program::Unresolved;
-use crate::scope::{Scope, atom, called};
+use crate::scope::{Scope, called, parameter};
 use crate::words;
-use ps_base::{Boxed, Items};
-use ps_datum::Datum;
+use ps_base::{Boxed, Items, Names};
+use ps_datum::{Datum, DatumKind};
 use ps_meaning::{Comparison, Expr, Keyword, Operator};
 use std::alloc::Global;
 
@@ -21,21 +21,27 @@ pub(crate) struct Test {
     pub right: Expr,
 }
 
-// The word that a datum is.
-pub(crate) fn word(datum: &Datum) -> Option<&[u8]>
-    ensures { MatchOption result ((part datum.now).word ≡ None) (λ w. (part datum.now).word ≡ Some w.now) }
+// The word that a datum is: the text of its name.
+pub(crate) fn word<'a>(names: &'a Names, datum: &Datum) -> Option<&'a [u8]>
+    ensures { MatchOption result ((part names.now datum.now).word ≡ None) (λ w. (part names.now datum.now).word ≡ Some w.now) }
 {
-    match datum {
-        Datum::Word(word) => Some(word.as_slice()),
-        Datum::List(_) => None,
+    match &datum.kind {
+        DatumKind::Symbol(name) => words::text(names, *name),
+        DatumKind::Boolean(_) => None,
+        DatumKind::Integer(_) => None,
+        DatumKind::Char(_) => None,
+        DatumKind::Text(_) => None,
+        DatumKind::List(_) => None,
+        DatumKind::Dotted(_, _) => None,
+        DatumKind::Vector(_) => None,
     }
 }
 
 // The keyword that a datum is.
-pub(crate) fn keyword(datum: &Datum) -> Option<Keyword>
-    ensures { result ≡ keyword_in (part datum.now).word }
+pub(crate) fn keyword(names: &Names, datum: &Datum) -> Option<Keyword>
+    ensures { result ≡ keyword_in (part names.now datum.now).word }
 {
-    match word(datum) {
+    match word(names, datum) {
         Some(word) => words::keyword(word),
         None => None,
     }
@@ -44,22 +50,25 @@ pub(crate) fn keyword(datum: &Datum) -> Option<Keyword>
 // The expression that a datum is.
 #[cycle(expr)]
 pub(crate) fn expr(alloc: Global, scope: &Scope<'_>, datum: &Datum) -> Result<Expr, Unresolved>
-    ensures { IsRead result ((part datum.now).expr (scope_of scope.now)) }
+    ensures { IsRead result ((part scope.now.names.now datum.now).expr (scope_of scope.now)) }
 {
-    match datum {
-        Datum::Word(word) => match atom(scope, word.as_slice()) {
-            Some(expr) => Ok(expr),
-            None => Err(Unresolved::NotProgram),
-        },
-        Datum::List(parts) => {
+    match &datum.kind {
+        DatumKind::Integer(i) => Ok(Expr::Integer(*i)),
+        DatumKind::Symbol(name) => parameter(scope, *name).ok_or(Unresolved::NotProgram),
+        DatumKind::List(parts) => {
             let [first, operands @ ..] = parts.as_slice() else {
                 return Err(Unresolved::NotProgram);
             };
-            let Some(word) = word(first) else {
+            let Some(word) = word(scope.names, first) else {
                 return Err(Unresolved::NotProgram);
             };
             form(alloc, scope, word, operands)
         }
+        DatumKind::Boolean(_) => Err(Unresolved::NotProgram),
+        DatumKind::Char(_) => Err(Unresolved::NotProgram),
+        DatumKind::Text(_) => Err(Unresolved::NotProgram),
+        DatumKind::Dotted(_, _) => Err(Unresolved::NotProgram),
+        DatumKind::Vector(_) => Err(Unresolved::NotProgram),
     }
 }
 
@@ -71,7 +80,7 @@ fn form(
     word: &[u8],
     operands: &[Datum],
 ) -> Result<Expr, Unresolved>
-    ensures { IsRead result (form_by (scope_of scope.now) word.now (map part operands.now) (keyword_of word.now)) }
+    ensures { IsRead result (form_by (scope_of scope.now) word.now (map (part scope.now.names.now) operands.now) (keyword_of word.now)) }
 {
     match words::keyword(word) {
         None => call(alloc, scope, word, operands),
@@ -92,7 +101,7 @@ fn operation(
     operator: Operator,
     operands: &[Datum],
 ) -> Result<Expr, Unresolved>
-    ensures { IsRead result (operation_of (scope_of scope.now) operator (map part operands.now)) }
+    ensures { IsRead result (operation_of (scope_of scope.now) operator (map (part scope.now.names.now) operands.now)) }
 {
     let [a, b] = operands else {
         return Err(Unresolved::NotProgram);
@@ -105,7 +114,7 @@ fn operation(
 // The conditional of a test and two expressions.
 #[cycle(expr)]
 fn conditional(alloc: Global, scope: &Scope<'_>, operands: &[Datum]) -> Result<Expr, Unresolved>
-    ensures { IsRead result (conditional_of (scope_of scope.now) (map part operands.now)) }
+    ensures { IsRead result (conditional_of (scope_of scope.now) (map (part scope.now.names.now) operands.now)) }
 {
     let [t, c, d] = operands else {
         return Err(Unresolved::NotProgram);
@@ -127,15 +136,15 @@ fn conditional(alloc: Global, scope: &Scope<'_>, operands: &[Datum]) -> Result<E
 // The test that a datum is.
 #[cycle(expr)]
 fn read_test(alloc: Global, scope: &Scope<'_>, datum: &Datum) -> Result<Test, Unresolved>
-    ensures { IsReadAs test_of result ((part datum.now).test (scope_of scope.now)) }
+    ensures { IsReadAs test_of result ((part scope.now.names.now datum.now).test (scope_of scope.now)) }
 {
-    let Datum::List(parts) = datum else {
+    let DatumKind::List(parts) = &datum.kind else {
         return Err(Unresolved::NotProgram);
     };
     let [first, a, b] = parts.as_slice() else {
         return Err(Unresolved::NotProgram);
     };
-    let Some(Keyword::Compare(comparison)) = keyword(first) else {
+    let Some(Keyword::Compare(comparison)) = keyword(scope.names, first) else {
         return Err(Unresolved::NotProgram);
     };
     let left = expr(alloc, scope, a)?;
@@ -155,7 +164,7 @@ fn call(
     name: &[u8],
     operands: &[Datum],
 ) -> Result<Expr, Unresolved>
-    ensures { IsRead result (call_of (scope_of scope.now) name.now (map part operands.now)) }
+    ensures { IsRead result (call_of (scope_of scope.now) name.now (map (part scope.now.names.now) operands.now)) }
 {
     let Some(procedure) = called(scope, name, operands.len()) else {
         return Err(Unresolved::NotProgram);
@@ -167,7 +176,7 @@ fn call(
 // The expressions that these data are.
 #[cycle(expr)]
 fn exprs(alloc: Global, scope: &Scope<'_>, parts: &[Datum]) -> Result<Items<Expr>, Unresolved>
-    ensures { IsRead result (all_some (map (λ (p : Part). p.expr (scope_of scope.now)) (map part parts.now))) }
+    ensures { IsRead result (all_some (map (λ (p : Part). p.expr (scope_of scope.now)) (map (part scope.now.names.now) parts.now))) }
 {
     let mut exprs = Items::new(alloc);
     for datum in parts {
@@ -178,7 +187,7 @@ fn exprs(alloc: Global, scope: &Scope<'_>, parts: &[Datum]) -> Result<Items<Expr
 
 // The read of a byte, which has no operands.
 fn read_byte(operands: &[Datum]) -> Result<Expr, Unresolved>
-    ensures { IsRead result (read_of (map part operands.now)) }
+    ensures { (names : List (List ℕ)) → IsRead result (read_of (map (part names) operands.now)) }
 {
     if operands.is_empty() {
         Ok(Expr::ReadByte)

@@ -3,11 +3,16 @@
 
 mod definition;
 mod expr;
+mod faults;
+mod name_faults;
 mod program;
 mod scope;
+mod shapes;
 mod words;
 
-pub use program::{Unresolved, resolve};
+pub use program::resolve;
 
+#[cfg(test)]
+mod faults_tests;
 #[cfg(test)]
 mod tests;

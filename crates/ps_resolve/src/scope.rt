@@ -1,30 +1,28 @@
 //! What names stand for.
 
-ghost use Rattle.std.specs.Prelude.{◌≡◌, Some};
-ghost use Rattle.ps_meaning.specs.Forms.{atom_of, with_arity, called};
+ghost use Rattle.std.specs.Prelude.{◌≡◌, slice_get, Some};
+ghost use Rattle.ps_meaning.specs.Forms.{word_part, with_arity, called};
 ghost use Rattle.ps_resolve.specs.Values.{scope_of};
 
-use crate::words::integer;
+use crate::words::text;
 use ps_base::{Name, Names};
 use ps_meaning::Expr;
 
-// Where an expression stands: the parameters of the procedure around it, and the program's procedures with their numbers of
-// parameters.
+// Where an expression stands: the names in the data, the parameters of the procedure around it, and the program's procedures
+// with their numbers of parameters.
 #[derive(Drop)]
 pub(crate) struct Scope<'a> {
+    pub names: &'a Names,
     pub parameters: &'a Names,
     pub procedures: &'a Names,
     pub arities: &'a [u32],
 }
 
-// The integer or the parameter that a word is which stands alone.
-pub(crate) fn atom(scope: &Scope<'_>, word: &[u8]) -> Option<Expr>
-    ensures { result ≡ atom_of (scope_of scope.now) word.now }
+// The parameter that a name is which stands alone.
+pub(crate) fn parameter(scope: &Scope<'_>, name: Name) -> Option<Expr>
+    ensures { result ≡ (word_part (slice_get scope.now.names.now name.0)).expr (scope_of scope.now) }
 {
-    if let Some(i) = integer(word) {
-        return Some(Expr::Integer(i));
-    }
-    match scope.parameters.find(word) {
+    match scope.parameters.find(text(scope.names, name)?) {
         Some(Name(number)) => Some(Expr::Parameter(number)),
         None => None,
     }

@@ -4,55 +4,94 @@ ghost use Rattle.std.specs.Prelude.{◌≡◌, IfSome};
 ghost use Rattle.ps_datum.specs.Weight.{weight, weights};
 
 use crate::*;
-use ps_base::Items;
-use ps_datum::Datum;
+use ps_base::{Boxed, Fault, Items, Name, Names, NoMemory, Place, Refusal};
+use ps_datum::{Datum, DatumKind};
 use ps_meaning::{Comparison, Expr, Operator, Program};
 use std::alloc::{AllocError, Global};
 use std::test::Fail;
 
+// A datum. No test looks at its place.
+fn datum(kind: DatumKind) -> Datum {
+    let place = Place {
+        file: 0,
+        line: 1,
+        column: 1,
+    };
+    Datum { place, kind }
+}
+
+// The symbol of a word.
+fn symbol(names: &mut Names, word: &[u8]) -> Result<DatumKind, Fail> {
+    if names.len() == u32::MAX {
+        return Err("many names".into());
+    }
+    match names.add(word) {
+        Ok(name) => Ok(DatumKind::Symbol(name)),
+        Err(NoMemory) => Err(AllocError.into()),
+    }
+}
+
+// What a word is: an integer, or else a symbol.
+fn kind(names: &mut Names, word: &[u8]) -> Result<DatumKind, Fail> {
+    if let Ok(text) = str::from_utf8(word) {
+        if let Ok(i) = text.parse::<i64>() {
+            return Ok(DatumKind::Integer(i));
+        }
+    }
+    symbol(names, word)
+}
+
 // Ends the word that was read so far.
-fn end_word(alloc: Global, word: &mut Vec<u8>, data: &mut Items<Datum>) -> Result<(), AllocError> {
+fn end_word(names: &mut Names, word: &mut Vec<u8>, data: &mut Items<Datum>) -> Result<(), Fail> {
     if !word.is_empty() {
-        data.push(Datum::Word(Items::from_slice(alloc, word.as_slice())?))?;
+        data.push(datum(kind(names, word.as_slice())?))?;
         word.clear();
     }
     Ok(())
 }
 
-// The data that a text of words and brackets writes.
-fn data(alloc: Global, text: &[u8]) -> Result<Items<Datum>, AllocError> {
+// The data that a text of integers, symbols and brackets writes.
+fn data(alloc: Global, names: &mut Names, text: &[u8]) -> Result<Items<Datum>, Fail> {
     let mut outer = Vec::new(alloc);
     let mut inner = Items::new(alloc);
     let mut word = Vec::new(alloc);
     for b in text {
         match b {
             b'(' => {
-                end_word(alloc, &mut word, &mut inner)?;
+                end_word(names, &mut word, &mut inner)?;
                 outer.push(inner)?;
                 inner = Items::new(alloc);
             }
             b')' => {
-                end_word(alloc, &mut word, &mut inner)?;
-                let list = Datum::List(inner);
+                end_word(names, &mut word, &mut inner)?;
+                let list = datum(DatumKind::List(inner));
                 inner = outer.pop().unwrap_or(Items::new(alloc));
                 inner.push(list)?;
             }
-            b' ' => end_word(alloc, &mut word, &mut inner)?,
+            b' ' => end_word(names, &mut word, &mut inner)?,
             _ => word.push(*b)?,
         }
     }
-    end_word(alloc, &mut word, &mut inner)?;
+    end_word(names, &mut word, &mut inner)?;
     Ok(inner)
 }
 
-// How many tokens a datum is written with.
+// How large a datum is.
 #[cycle(weight)]
 fn weight(datum: &Datum) -> Option<u32>
     ensures { IfSome result (λ n. n ≡ weight datum.now) }
 {
-    match datum {
-        Datum::Word(_) => Some(1),
-        Datum::List(parts) => weights(parts.as_slice())?.checked_add(2),
+    match &datum.kind {
+        DatumKind::Boolean(_) => Some(1),
+        DatumKind::Integer(_) => Some(1),
+        DatumKind::Char(_) => Some(1),
+        DatumKind::Text(_) => Some(1),
+        DatumKind::Symbol(_) => Some(1),
+        DatumKind::List(parts) => weights(parts.as_slice())?.checked_add(2),
+        DatumKind::Dotted(parts, last) => weights(parts.as_slice())?
+            .checked_add(3)?
+            .checked_add(weight(last.get())?),
+        DatumKind::Vector(parts) => weights(parts.as_slice())?.checked_add(2),
     }
 }
 
@@ -205,31 +244,20 @@ const KEYWORDS: &[u8] =
 (define (main) 1) (define (f <) 1)\n\
 (define (main) 1) (define (f =) 1)";
 
-// Identifiers and integers.
+// Symbols and integers.
 const WORDS: &[u8] =
     b"(define (main) 1) (define (->x ... a.b@+9 $%&*/:<=>?^_~! ->) a.b@+9)|[0 1][4 x1]\n\
-(define (main) 1) (define (f 1+) 1)\n\
-(define (main) 1) (define (f .) 1)\n\
-(define (main) 1) (define (f ..) 1)\n\
-(define (main) 1) (define (f .a) 1)\n\
-(define (main) 1) (define (f +a) 1)\n\
-(define (main) 1) (define (f -a) 1)\n\
-(define (main) 1) (define (f 'a) 1)\n\
-(define (main) 1) (define (f #t) 1)\n\
-(define (main) 1) (define (f ->\xc3\xa9) 1)\n\
-(define (main) 1) (define (f a\xc3\xa9) 1)\n\
-(define (main) 1) (define (f A) 1)\n\
 (define (main) 1) (define (f 7) 7)\n\
-(define (main) -0)|[0 0]\n\
-(define (main) +7)|[0 7]\n\
+(define (main) 1) (define (7 x) x)\n\
+(define 7 1) (define (main) 1)\n\
+(7 (main) 1)\n\
+7\n\
+(define (main) (if 7 1 2))\n\
+(define (main) (if (7 1 2) 1 2))\n\
+(define (main) (7 1) 2)\n\
 (define (main) 9223372036854775807)|[0 9223372036854775807]\n\
 (define (main) -9223372036854775808)|[0 -9223372036854775808]\n\
-(define (main) 9223372036854775808)\n\
-(define (main) -9223372036854775809)\n\
-(define (main) 000000000000000000000000000000001)|[0 1]\n\
-(define (main) +)\n\
-(define (main) --1)\n\
-(define (main) 1.0)";
+(define (main) +)";
 
 // The text of a row, and what it is.
 fn halves(row: &[u8]) -> (&[u8], &[u8]) {
@@ -239,18 +267,25 @@ fn halves(row: &[u8]) -> (&[u8], &[u8]) {
     }
 }
 
-// The program that a text is, as `shown` writes it, or nothing where it is none.
-fn resolved(alloc: Global, text: &[u8]) -> Result<String, Fail> {
-    let forms = data(alloc, text)?;
-    let tokens = weights(forms.as_slice()).ok_or("a long text")?;
-    if tokens == u32::MAX {
-        return Err("a long text".into());
+// The program that forms are, as `shown` writes it, or nothing where they are none.
+fn resolved_forms(alloc: Global, names: &Names, forms: &[Datum]) -> Result<String, Fail> {
+    let weight = weights(forms).ok_or("large data")?;
+    if weight == u32::MAX {
+        return Err("large data".into());
     }
-    match resolve(alloc, forms.as_slice()) {
+    match resolve(alloc, names, forms) {
         Ok(program) => Ok(shown(alloc, &program)?),
-        Err(Unresolved::NotProgram) => Ok(String::new(alloc)),
-        Err(Unresolved::NoMemory) => Err(AllocError.into()),
+        Err(Refusal::Fault(Fault::NotBuilt(_))) => Ok(String::new(alloc)),
+        Err(Refusal::Fault(_)) => Err("another fault".into()),
+        Err(Refusal::NoMemory) => Err(AllocError.into()),
     }
+}
+
+// The same of a text.
+fn resolved(alloc: Global, text: &[u8]) -> Result<String, Fail> {
+    let mut names = Names::new(alloc);
+    let forms = data(alloc, &mut names, text)?;
+    resolved_forms(alloc, &names, forms.as_slice())
 }
 
 #[test]
@@ -290,6 +325,50 @@ fn counts_parameters(rt: HostRuntime) -> Result<(), Fail> {
     ] {
         let text = with_parameters(rt.alloc(), count, last)?;
         assert_eq!(rt; resolved(rt.alloc(), text.as_bytes())?.as_str(), want);
+    }
+    Ok(())
+}
+
+// What `(define (main) D)` is, where D is a datum of this kind.
+fn resolved_value(alloc: Global, mut names: Names, value: DatumKind) -> Result<String, Fail> {
+    let mut head = Items::new(alloc);
+    head.push(datum(symbol(&mut names, b"main")?))?;
+    let mut form = Items::new(alloc);
+    form.push(datum(symbol(&mut names, b"define")?))?;
+    form.push(datum(DatumKind::List(head)))?;
+    form.push(datum(value))?;
+    let mut forms = Items::new(alloc);
+    forms.push(datum(DatumKind::List(form)))?;
+    resolved_forms(alloc, &names, forms.as_slice())
+}
+
+#[test]
+fn other_data_are_no_expressions(rt: HostRuntime) -> Result<(), Fail> {
+    let alloc = rt.alloc();
+    let mut names = Names::new(alloc);
+    let front = data(alloc, &mut names, b"+ 1")?;
+    let last = Boxed::new(alloc, datum(DatumKind::Integer(2)))?;
+    let dotted = DatumKind::Dotted(front, last);
+    assert_eq!(rt; resolved_value(alloc, names, dotted)?.as_str(), "");
+    let mut names = Names::new(alloc);
+    let vector = DatumKind::Vector(data(alloc, &mut names, b"+ 1 2")?);
+    assert_eq!(rt; resolved_value(alloc, names, vector)?.as_str(), "");
+    let seven = DatumKind::Text(Items::from_slice(alloc, b"7")?);
+    assert_eq!(rt;
+        resolved_value(alloc, Names::new(alloc), seven)?.as_str(),
+        ""
+    );
+    for (value, want) in [
+        (DatumKind::Integer(7), "[0 7]"),
+        (DatumKind::Boolean(true), ""),
+        (DatumKind::Char(55), ""),
+        (DatumKind::Symbol(Name(0)), ""),
+        (DatumKind::Symbol(Name(2)), ""),
+    ] {
+        assert_eq!(rt;
+            resolved_value(alloc, Names::new(alloc), value)?.as_str(),
+            want
+        );
     }
     Ok(())
 }

@@ -5,10 +5,10 @@ use Rattle.ps_base.specs.SinkStates.{SinkState}
 use Rattle.ps_base.specs.Sinks.{Appended, Cut}
 use Rattle.ps_base.specs.declared.faults.Fault.TheVariants as faults
 use Rattle.ps_base.specs.declared.faults.Place.{Place}
+use Rattle.ps_base.specs.declared.faults.SyntaxKind.{SyntaxKind}
 use Rattle.ps_edge.specs.SourceStates.{SourceState}
 use Rattle.ps_edge.specs.Sources.{Taking, IsSpent}
-use Rattle.ps_meaning.specs.declared.program.Program.{Program}
-use Rattle.psc.specs.Headline.{IsProgramText, Compiles}
+use Rattle.psc.specs.Headline.{Compiles, BreaksSyntax, IsNoProgram}
 use Rattle.psc.specs.Words.{words_fault}
 use Rattle.psc.specs.declared.answer.Answer.{Answer}
 use Rattle.psc.specs.declared.answer.Answer.TheVariants as answers
@@ -16,9 +16,6 @@ use Rattle.psc.specs.declared.answer.Answer.TheVariants as answers
 -- how many bytes a text may have
 abbrev pub limit : ℕ
 limit = 4194304
-
-abbrev pub text_start : Place
-text_start = record { file = 0; line = 1; column = 1 }
 
 -- the input was read to its end, and the text is all that it had left
 pub record ReadsAll (i i' : SourceState) (text : List ℕ) : Type 0 where
@@ -62,12 +59,18 @@ pub record IsTooLong (file : ℕ) (i i' : SourceState) (o o' : SinkState) : Type
   pub above : limit < length bytes
   pub unchanged : o' ≡ o
 
--- the text is that of no program, and the output is unchanged
-pub record IsNotBuilt (place : Place) (i i' : SourceState) (o o' : SinkState) : Type 0 where
-  pub is_start : place ≡ text_start
+-- the text has a first breach of this kind, and the output is unchanged
+pub record IsSyntaxFault (kind : SyntaxKind) (place : Place) (i i' : SourceState) (o o' : SinkState) : Type 0 where
   pub text : List ℕ
   pub read : ReadsAll i i' text
-  pub none : (program : Program) → IsProgramText text program → ⊥
+  pub breaks : BreaksSyntax text kind place
+  pub unchanged : o' ≡ o
+
+-- the text is that of data that are no program, and the output is unchanged
+pub record IsNotBuilt (place : Place) (i i' : SourceState) (o o' : SinkState) : Type 0 where
+  pub text : List ℕ
+  pub read : ReadsAll i i' text
+  pub none : IsNoProgram text place
   pub unchanged : o' ≡ o
 
 -- memory ran out before the output was touched
@@ -85,7 +88,7 @@ Says (answers.Refused (faults.TooLong file)) i i' o o' = IsTooLong file i i' o o
 Says (answers.Refused (faults.NotBuilt place)) i i' o o' = IsNotBuilt place i i' o o'
 Says (answers.Refused (faults.Usage word)) i i' o o' = ⊥
 Says (answers.Refused (faults.Library k)) i i' o o' = ⊥
-Says (answers.Refused (faults.Syntax kind place)) i i' o o' = ⊥
+Says (answers.Refused (faults.Syntax kind place)) i i' o o' = IsSyntaxFault kind place i i' o o'
 Says (answers.Refused (faults.Module kind place)) i i' o o' = ⊥
 Says (answers.Refused (faults.Form kind place)) i i' o o' = ⊥
 Says (answers.Refused (faults.ExpansionSpent n)) i i' o o' = ⊥

@@ -1,10 +1,15 @@
--- The headline: what it means that bytes written are a right translation of a text (this project's own).
-use Rattle.std.specs.Prelude.{ℕ, List}
+-- The headline: what it means that bytes written are a right translation of a text, and why a text has none (this project's own).
+use Rattle.std.specs.Prelude.{◌≡◌, ℕ, List, [], Some}
 use Rattle.ps_base.specs.Agree.{Agree, Shallow}
 use Rattle.ps_base.specs.Worlds.{Surroundings}
+use Rattle.ps_base.specs.declared.faults.Place.{Place}
+use Rattle.ps_base.specs.declared.faults.SyntaxKind.{SyntaxKind}
 use Rattle.ps_datum.specs.declared.datum.Datum.{Datum}
-use Rattle.ps_read.specs.Reads.{Reads}
+use Rattle.ps_read.specs.Breaches.{FirstBreach}
+use Rattle.ps_read.specs.Lexical.{tokens_of}
+use Rattle.ps_read.specs.Reading.{Reads}
 use Rattle.ps_meaning.specs.declared.program.Program.{Program}
+use Rattle.ps_meaning.specs.Faults.{fault_of}
 use Rattle.ps_meaning.specs.Forms.{IsProgram}
 use Rattle.ps_meaning.specs.Meaning.{Source}
 use Rattle.c_ast.specs.declared.unit.CUnit.{CUnit}
@@ -12,11 +17,23 @@ use Rattle.c_ast.specs.Text.{CText}
 use Rattle.c_ast.specs.WellFormed.{IsWellFormed}
 use Rattle.c_meaning.specs.Machine.{CRun}
 
--- the text is that of the program
+-- the text, read as file 0, is that of the program
 pub record IsProgramText (text : List ℕ) (p : Program) : Type 0 where
   pub forms : List Datum
-  pub reads : Reads text forms
-  pub is_program : IsProgram forms p
+  pub names : List (List ℕ)
+  pub reads : Reads [] 0 text forms names
+  pub is_program : IsProgram names forms p
+
+-- the first breach of the text, read as file 0, is of this kind and at this place
+pub record BreaksSyntax (text : List ℕ) (kind : SyntaxKind) (place : Place) : Type 0 where
+  pub first : FirstBreach (tokens_of [] 0 text) (record { kind = kind; place = place })
+
+-- the text is that of data, which are no program, and this is where
+pub record IsNoProgram (text : List ℕ) (place : Place) : Type 0 where
+  pub forms : List Datum
+  pub names : List (List ℕ)
+  pub reads : Reads [] 0 text forms names
+  pub fault : fault_of names forms ≡ Some place
 
 -- The text is that of a program. The unit is well formed. In every world it does what the program does, and has at most one
 -- frame more than the program's calls are deep.

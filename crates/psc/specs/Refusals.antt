@@ -1,26 +1,18 @@
--- What it means that a text has no translation.
-use Rattle.std.specs.Prelude.{◌≡◌, Result, Ok, Err}
-use Rattle.ps_read.specs.declared.read.Unread.{Unread}
-use Rattle.ps_read.specs.declared.read.Unread.TheVariants as unread
-use Rattle.ps_resolve.specs.declared.program.Unresolved.{Unresolved}
-use Rattle.ps_resolve.specs.declared.program.Unresolved.TheVariants as unresolved
-use Rattle.psc.specs.declared.translation.Untranslated.{Untranslated}
-use Rattle.psc.specs.declared.translation.Untranslated.TheVariants.{NotBuilt, NoMemory}
+-- Why a text has no translation.
+use Rattle.std.specs.Prelude.{ℕ, List}
+use Rattle.ps_base.specs.declared.faults.Fault.{Fault}
+use Rattle.ps_base.specs.declared.faults.Fault.TheVariants as faults
+use Rattle.ps_base.specs.declared.faults.Refusal.{Refusal}
+use Rattle.ps_base.specs.declared.faults.Refusal.TheVariants as refusals
+use Rattle.psc.specs.Headline.{BreaksSyntax, IsNoProgram}
 
-abbrev pub IsNotBuilt : Untranslated → Type 0
-IsNotBuilt NotBuilt = Unit {0}
-IsNotBuilt NoMemory = ⊥
+-- the fault is that of the text
+abbrev pub IsFaultOf : List ℕ → Fault → Type 0
+IsFaultOf text (faults.Syntax kind place) = BreaksSyntax text kind place
+IsFaultOf text (faults.NotBuilt place) = IsNoProgram text place
+IsFaultOf text _ = ⊥
 
--- the text was refused, and not for want of memory
-abbrev pub IsUntranslated : {A : Type 0} → Result A Untranslated → Type 0
-IsUntranslated (Ok x) = ⊥
-IsUntranslated (Err e) = IsNotBuilt e
-
--- the refusal of a pass is that of the whole
-abbrev pub SameAsUnread : Unread → Untranslated → Type 0
-SameAsUnread unread.NotData e = e ≡ NotBuilt
-SameAsUnread unread.NoMemory e = e ≡ NoMemory
-
-abbrev pub SameAsUnresolved : Unresolved → Untranslated → Type 0
-SameAsUnresolved unresolved.NotProgram e = e ≡ NotBuilt
-SameAsUnresolved unresolved.NoMemory e = e ≡ NoMemory
+-- the refusal is for a fault of the text, or for want of memory
+abbrev pub IsRefusalOf : List ℕ → Refusal → Type 0
+IsRefusalOf text (refusals.Fault fault) = IsFaultOf text fault
+IsRefusalOf text refusals.NoMemory = Unit {0}

@@ -6,19 +6,12 @@ ghost use Rattle.psc.specs.Answers.{Says, Answers, LineWritten};
 
 use crate::answer::Answer;
 use crate::lines::write_fault;
-use crate::translation::{Untranslated, translate};
+use crate::translation::translate;
 use crate::words::usage_of;
 use c_emit::emit;
-use ps_base::{Fault, Limits, Names, Place, Sink, SinkFault};
+use ps_base::{Fault, Limits, Names, Refusal, Sink, SinkFault};
 use ps_edge::{Source, TextFault, read_text};
 use std::alloc::Global;
-
-// Where a text begins.
-const TEXT_START: Place = Place {
-    file: 0,
-    line: 1,
-    column: 1,
-};
 
 // Reads the input to its end, and writes the translation of its text.
 fn compile<I: Source, O: Sink>(alloc: Global, input: &mut I, output: &mut O) -> Answer
@@ -32,8 +25,8 @@ fn compile<I: Source, O: Sink>(alloc: Global, input: &mut I, output: &mut O) -> 
     };
     let unit = match translate(alloc, text.as_slice()) {
         Ok(unit) => unit,
-        Err(Untranslated::NotBuilt) => return Answer::Refused(Fault::NotBuilt(TEXT_START)),
-        Err(Untranslated::NoMemory) => return Answer::NoMemory,
+        Err(Refusal::Fault(fault)) => return Answer::Refused(fault),
+        Err(Refusal::NoMemory) => return Answer::NoMemory,
     };
     match emit(&unit, output) {
         Ok(()) => Answer::Done,
@@ -59,7 +52,10 @@ fn compile<I: Source, O: Sink>(alloc: Global, input: &mut I, output: &mut O) -> 
 ///   read or written.
 /// - `Refused(Source)`: only where the input's count of faults rose. Nothing was written.
 /// - `Refused(TooLong(0))`: exactly where more than 4,194,304 bytes were taken from the input. Nothing was written.
-/// - `Refused(NotBuilt(0:1:1))`: exactly where the text that was read is not the text of a program.
+/// - `Refused(Syntax(kind, place))`: exactly where the text that was read is not that of data (R5RS 7.1.1 and 7.1.2, in this
+///   project's profile), with its first breach. Nothing was written.
+/// - `Refused(NotBuilt(place))`: exactly where the text is that of data that are no program, with the place of the first fault:
+///   the first datum that has not the shape expected in its place; else the first name that breaks a condition; else 0:1:1.
 ///   Nothing was written.
 /// - `Refused(Sink)`: only where the output's count of faults rose. A front of the translation was appended.
 /// - `NoMemory`: where memory ran out. Nothing was written.

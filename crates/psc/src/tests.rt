@@ -9,19 +9,31 @@ mod texts;
 
 use crate::answer::Answer;
 use crate::run::run_psc;
-use ps_base::{Fault, Items, Place};
+use ps_base::{Fault, Items, Place, SyntaxKind};
 use ps_edge::{MemorySink, MemorySource};
 use std::alloc::Global;
 use std::test::Fail;
 
-// Where a text begins.
-const START: Place = Place {
-    file: 0,
-    line: 1,
-    column: 1,
-};
+// The refusal of a text that is no program, at a place of the text.
+fn not_built(line: u32, column: u32) -> Answer {
+    Answer::Refused(Fault::NotBuilt(Place {
+        file: 0,
+        line,
+        column,
+    }))
+}
 
-const NOT_BUILT: Answer = Answer::Refused(Fault::NotBuilt(START));
+// The refusal of a text that is not that of data.
+fn syntax(kind: SyntaxKind, line: u32, column: u32) -> Answer {
+    Answer::Refused(Fault::Syntax(
+        kind,
+        Place {
+            file: 0,
+            line,
+            column,
+        },
+    ))
+}
 
 fn source(alloc: Global, text: &[u8], step: usize, failing: &[u64]) -> Result<MemorySource, Fail>
     requires { 0 < step }
@@ -44,13 +56,19 @@ fn strings(alloc: Global, words: &[&str]) -> Result<Vec<String>, Fail> {
     Ok(strings)
 }
 
-// What `compile` answers to a text, and what it writes.
-fn compiled(alloc: Global, text: &[u8]) -> Result<(Answer, MemorySink), Fail> {
+// What `compile` answers to a text, what it writes, and what it tells of it.
+fn told(alloc: Global, text: &[u8]) -> Result<(Answer, MemorySink, MemorySink), Fail> {
     let words = strings(alloc, &["compile"])?;
     let mut input = source(alloc, text, 4096, &[])?;
     let mut output = sink(alloc, 1_000_000, 4096, &[])?;
     let mut errors = sink(alloc, 1000, 4096, &[])?;
     let answer = run_psc(alloc, &words, &mut input, &mut output, &mut errors);
+    Ok((answer, output, errors))
+}
+
+// What `compile` answers to a text, and what it writes.
+fn compiled(alloc: Global, text: &[u8]) -> Result<(Answer, MemorySink), Fail> {
+    let (answer, output, _) = told(alloc, text)?;
     Ok((answer, output))
 }
 
@@ -199,7 +217,7 @@ fn says_what_failed(rt: HostRuntime) -> Result<(), Fail> {
 fn takes_texts_up_to_the_limit(rt: HostRuntime) -> Result<(), Fail> {
     let alloc = rt.alloc();
     let cases: &[(usize, Answer)] = &[
-        (4_194_304, NOT_BUILT),
+        (4_194_304, not_built(1, 1)),
         (4_194_305, Answer::Refused(Fault::TooLong(0))),
     ];
     for (spaces, wanted) in cases {

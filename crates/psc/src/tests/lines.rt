@@ -1,6 +1,6 @@
 //! The lines of faults.
 
-use super::{NOT_BUILT, sink};
+use super::{not_built, sink};
 use crate::answer::{Answer, status_of};
 use crate::lines::write_fault;
 use ps_base::{
@@ -122,7 +122,7 @@ fn prints_the_line_of_each_fault(rt: HostRuntime) -> Result<(), Fail> {
             16,
             b"psc: 16 code-spent 2000000\n",
         ),
-        (NOT_BUILT, 17, b"psc: 17 not-built 0:1:1\n"),
+        (not_built(1, 1), 17, b"psc: 17 not-built 0:1:1\n"),
     ];
     for (answer, status, line) in cases {
         let mut errors = sink(alloc, 100, 4, &[])?;

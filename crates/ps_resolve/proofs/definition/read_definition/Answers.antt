@@ -1,13 +1,22 @@
--- A definition is refused by its parameters.
 use Rattle.std.proofs.Common.{rules, subst, sym}
 use Rattle.std.proofs.lemmas.List.{take_rest}
 use Rattle.ps_resolve.specs.Refusals.{IsNotProgram}
 use Rattle.ps_resolve.specs.Definitions.{AreParameters}
-use Rattle.ps_resolve.proofs.Heads.{AreParameters-of_head}
+use Rattle.ps_resolve.proofs.Heads.{AreParameters-of_head, head-of_parameters}
 use Rattle.ps_resolve.proofs.definition.read_definition.Goals as goal
 
 pub returns-in_err-parameters-clause-unread : goal.returns-in_err-parameters-clause-unread
 returns-in_err-parameters-clause-unread c = λ u h e fine.
     let is : IsNotProgram c.in_err-parameters.field-0.0 = search rules in
     let arm = c.in-Some-len1-up-default in
-    c.in_err-parameters.ensures.unread is h.parameters (subst (λ z. AreParameters z h.parameters) (sym (take_rest arm.field-0-0.now 1)) (AreParameters-of_head c.args.form.now arm.field-0-0.now arm.body.now arm.ensures arm.len_at_least h e fine))
+    c.in_err-parameters.ensures.unread is h.parameters (subst (λ z. AreParameters c.args.names.now z h.parameters) (sym (take_rest arm.field-0-0.now 1)) (AreParameters-of_head c.args.names.now c.args.form.now arm.field-0-0.now arm.body.now arm.ensures arm.len_at_least h e fine))
+
+pub returns-clause-read : goal.returns-clause-read
+returns-clause-read c =
+    let arm = c.in-Some-len1-up-default in
+    let are = subst (λ z. AreParameters c.args.names.now z c.in_ok-parameters.parameters) (take_rest arm.field-0-0.now 1) c.in_ok-parameters.ensures.read in
+    record {
+      head = head-of_parameters c.args.names.now c.args.form.now arm.field-0-0.now arm.body.now arm.ensures arm.len_at_least c.first-item.result c.first-item.is c.in-Some.name.now c.in-Some.ensures.0 c.in-Some.ensures.1 c.in_ok-parameters.parameters are;
+      is_head = record { distinct = are.is_distinct; few = are.few };
+      procedure = arm.ensures.procedure;
+    }

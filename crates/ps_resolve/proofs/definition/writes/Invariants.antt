@@ -1,4 +1,3 @@
--- What the loop over writes has read.
 use Rattle.std.proofs.Common.{◌≡◌, map, take, Some}
 use Rattle.ps_meaning.specs.Forms.{Part, part, all_some}
 use Rattle.ps_resolve.specs.Values.{scope_of}
@@ -6,4 +5,4 @@ use Rattle.ps_resolve.proofs.definition.writes.Given as goal
 
 -- what was read so far
 abbrev pub invariant-loop-form : goal.invariant-loop-form
-invariant-loop-form l = all_some (map (λ (p : Part). p.write (scope_of l.scope)) (map part (take l.form-index l.forms))) ≡ Some l.writes
+invariant-loop-form l = all_some (map (λ (p : Part). p.write (scope_of l.scope)) (map (part l.scope.names.now) (take l.form-index l.forms))) ≡ Some l.writes

@@ -1,4 +1,3 @@
--- The numbers of parameters that the loop has taken.
 use Rattle.std.proofs.Common.{◌≡◌, take}
 use Rattle.ps_meaning.specs.Forms.{arities_in}
 use Rattle.ps_resolve.specs.Definitions.{heads_in}

@@ -1,7 +1,6 @@
--- What is known of the forms that the loop has passed.
 use Rattle.ps_resolve.proofs.Mains.{NoMainBelow}
 use Rattle.ps_resolve.proofs.program.around_main.Given as goal
 
 -- no form so far is that of `main`
 abbrev pub invariant-loop-at : goal.invariant-loop-at
-invariant-loop-at l = NoMainBelow l.at l.forms
+invariant-loop-at l = NoMainBelow l.names l.at l.forms

@@ -1,5 +1,4 @@
--- The definitions are read, or refused by those before or after that of `main`.
-use Rattle.std.proofs.Common.{rules, List, ◌∷◌, [], ◌++◌, ◌≡◌, sym, subst}
+use Rattle.std.proofs.Common.{rules, ℕ, List, ◌∷◌, [], ◌++◌, ◌≡◌, sym, subst}
 use Rattle.ps_datum.specs.declared.datum.Datum.{Datum}
 use Rattle.ps_resolve.specs.declared.definition.Definition.{Definition}
 use Rattle.ps_resolve.specs.Refusals.{IsNotProgram}
@@ -8,22 +7,22 @@ use Rattle.ps_resolve.proofs.Definitions.{good-parts}
 use Rattle.ps_resolve.proofs.program.in_order.Goals as goal
 
 -- the first definition alone
-first : (main : Datum) (x : Definition) (none xs : List Definition) → IsDefinition main x → none ≡ [] → xs ≡ none ++ x ∷ [] → AreDefinitions (main ∷ []) xs
-first main x [] xs is empty all = subst (AreDefinitions (main ∷ [])) (sym all) (record { each = (is, tt) })
-first main x (y ∷ ys) xs is empty all = absurd cc
+first : (names : List (List ℕ)) (main : Datum) (x : Definition) (none xs : List Definition) → IsDefinition names main x → none ≡ [] → xs ≡ none ++ x ∷ [] → AreDefinitions names (main ∷ []) xs
+first names main x [] xs is empty all = subst (AreDefinitions names (main ∷ [])) (sym all) (record { each = (is, tt) })
+first names main x (y ∷ ys) xs is empty all = absurd cc
 
 pub returns-in_err-read_definitions-clause-unread : goal.returns-in_err-read_definitions-clause-unread
 returns-in_err-read_definitions-clause-unread c = λ u hs are fine.
     let bad : IsNotProgram c.in_err-read_definitions.field-0.0 = search rules in
-    let rest = (good-parts (c.args.main.now ∷ []) (c.args.before.now ++ c.args.after.now) (record { heads = hs; are = are; good = fine })).1 in
-    let good = (good-parts c.args.before.now c.args.after.now rest).0 in
+    let rest = (good-parts c.args.names.now (c.args.main.now ∷ []) (c.args.before.now ++ c.args.after.now) (record { heads = hs; are = are; good = fine })).1 in
+    let good = (good-parts c.args.names.now c.args.before.now c.args.after.now rest).0 in
     c.in_err-read_definitions.ensures.unread bad good.heads good.are good.good
 
 pub returns-in_err-read_definitions-2-clause-unread : goal.returns-in_err-read_definitions-2-clause-unread
 returns-in_err-read_definitions-2-clause-unread c = λ u hs are fine.
     let bad : IsNotProgram c.in_err-read_definitions-2.field-0.0 = search rules in
-    let rest = (good-parts (c.args.main.now ∷ []) (c.args.before.now ++ c.args.after.now) (record { heads = hs; are = are; good = fine })).1 in
-    let good = (good-parts c.args.before.now c.args.after.now rest).1 in
+    let rest = (good-parts c.args.names.now (c.args.main.now ∷ []) (c.args.before.now ++ c.args.after.now) (record { heads = hs; are = are; good = fine })).1 in
+    let good = (good-parts c.args.names.now c.args.before.now c.args.after.now rest).1 in
     c.in_err-read_definitions-2.ensures.unread bad good.heads good.are good.good
 
 pub returns-clause-read : goal.returns-clause-read
@@ -32,4 +31,4 @@ returns-clause-read c =
     (c.args.main.now ∷ c.args.before.now)
     (c.in_ok-read_definitions.ensures.read
     (c.args.main.now ∷ [])
-    (first c.args.main.now c.in_ok-read_definition.field-0 c.new-definitions.result c.push.new.self c.in_ok-read_definition.ensures.read c.new-definitions.ensures c.in_ok-push.ensures.ok))
+    (first c.args.names.now c.args.main.now c.in_ok-read_definition.field-0 c.new-definitions.result c.push.new.self c.in_ok-read_definition.ensures.read c.new-definitions.ensures c.in_ok-push.ensures.ok))

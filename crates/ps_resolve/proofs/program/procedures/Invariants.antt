@@ -1,4 +1,3 @@
--- The procedures that the loop has read.
 use Rattle.std.proofs.Common.{◌≡◌, map, take, Some}
 use Rattle.ps_meaning.specs.Forms.{all_some}
 use Rattle.ps_resolve.specs.Definitions.{heads_in, procedure_among}
@@ -6,4 +5,4 @@ use Rattle.ps_resolve.proofs.program.procedures.Given as goal
 
 -- the procedures so far
 abbrev pub invariant-loop-definition : goal.invariant-loop-definition
-invariant-loop-definition l = all_some (map (procedure_among (heads_in l.definitions)) (take l.definition-index l.definitions)) ≡ Some l.procedures
+invariant-loop-definition l = all_some (map (procedure_among l.names (heads_in l.definitions)) (take l.definition-index l.definitions)) ≡ Some l.procedures

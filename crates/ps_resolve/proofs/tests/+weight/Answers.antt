@@ -1,4 +1,3 @@
--- The loop counts the tokens of one datum more.
 use Rattle.std.proofs.Common.{◌≡◌, ◌+◌, List, [], ◌∷◌, ◌++◌, take, sym, ap, ◌∙◌, arith}
 use Rattle.std.proofs.lemmas.List.{take_more}
 use Rattle.ps_datum.specs.declared.datum.Datum.{Datum}

@@ -1,4 +1,3 @@
--- The tokens that the loop has counted.
 use Rattle.std.proofs.Common.{◌≡◌, take}
 use Rattle.ps_datum.specs.Weight.{weights}
 use Rattle.ps_resolve.proofs.tests.+weight.Given as goal

@@ -1,0 +1,9 @@
+use Rattle.std.proofs.Common.{sym, ap, ◌∙◌}
+use Rattle.ps_meaning.specs.Faults.{Flaws}
+use Rattle.ps_resolve.proofs.shapes.definition_shape.Goals as goal
+
+pub returns-in-None : goal.returns-in-None
+returns-in-None c = sym (c.in-None.ensures.definition c.args.names.now)
+
+pub returns-in-Some : goal.returns-in-Some
+returns-in-Some c = c.definition_list_shape.ensures ∙ sym (ap (λ (f : Flaws). f.definition_shape) (c.in-Some.ensures.is c.args.names.now))
