@@ -3,11 +3,11 @@ use Rattle.std.proofs.Common.{◌≡◌, ℕ, ℤ, suc, pos, ◌+◌, ◌≤◌,
 use Rattle.std.specs.Prelude.{slice_get, slice_set, ◌&&◌}
 use Rattle.std.specs.List.{AllByRecursion}
 use Rattle.std.proofs.lemmas.Bool.{and_parts, ltb-true}
-use Rattle.ps_base.specs.declared.world.Event.{Event}
-use Rattle.ps_base.specs.declared.world.Event.TheVariants.{Output}
-use Rattle.ps_base.specs.declared.world.Op.TheVariants.{Byte, Unset}
+use Rattle.byte_store.specs.declared.event.Event.{Event}
+use Rattle.byte_store.specs.declared.event.Event.TheVariants.{Output}
+use Rattle.ps_base.specs.declared.faults.Op.TheVariants.{Byte, Unset}
 use Rattle.ps_base.specs.Numbers.{byte_of}
-use Rattle.ps_base.specs.Outcome.{Undefined}
+use Rattle.byte_store.specs.Outcome.{Undefined}
 use Rattle.ps_meaning.specs.declared.program.Expr.{Expr}
 use Rattle.ps_meaning.specs.declared.program.Expr.TheVariants as exprs
 use Rattle.ps_meaning.specs.declared.program.Procedure.{Procedure}

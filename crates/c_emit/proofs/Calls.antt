@@ -6,9 +6,9 @@ use Rattle.std.specs.List.{AllByRecursion}
 use Rattle.std.proofs.lemmas.Option.{slice_get-map}
 use Rattle.std.proofs.lemmas.List.{length-set, length-replicate, get_or-set_same, get_or-set_other}
 use Rattle.std.proofs.Math.Nat.{le-max_left, le-max_right}
-use Rattle.ps_base.specs.declared.world.Op.TheVariants.{Unset}
-use Rattle.ps_base.specs.Outcome.{Running, Wrong}
-use Rattle.ps_base.specs.Machine.{Goes as Moves}
+use Rattle.ps_base.specs.declared.faults.Op.TheVariants.{Unset}
+use Rattle.byte_store.specs.Outcome.{Running, Wrong}
+use Rattle.byte_store.specs.Machine.{Goes as Moves}
 use Rattle.ps_meaning.specs.declared.program.Procedure.{Procedure}
 use Rattle.ps_meaning.specs.declared.program.Program.{Program}
 use Rattle.ps_meaning.specs.Run as source

@@ -3,7 +3,7 @@ use Rattle.std.proofs.Common.{◌≡◌, ℕ, ℤ, pos, ◌+◌, ◌<◌, ◌≤
 use Rattle.std.specs.Prelude.{if◌then◌else◌}
 use Rattle.std.proofs.lemmas.List.{get_or-set_same}
 use Rattle.ps_base.specs.Numbers.{fit}
-use Rattle.ps_base.specs.Machine.{Goes as Moves}
+use Rattle.byte_store.specs.Machine.{Goes as Moves}
 use Rattle.ps_meaning.specs.declared.program.Expr.TheOpen.{Expr-F}
 use Rattle.ps_meaning.specs.declared.program.Comparison.{Comparison}
 use Rattle.ps_meaning.specs.declared.program.Comparison.TheVariants as comparisons
@@ -16,7 +16,7 @@ use Rattle.c_ast.specs.declared.unit.Statement.{Statement}
 use Rattle.c_ast.specs.declared.unit.Statement.TheVariants as statements
 use Rattle.c_ast.specs.declared.unit.CUnit.{CUnit}
 use Rattle.c_meaning.specs.Machine.{State, atom_value, with_value, result_of, after_label, jump, branch, body_of, step_at, machine}
-use Rattle.ps_base.specs.declared.world.Op.TheVariants.{Unset}
+use Rattle.ps_base.specs.declared.faults.Op.TheVariants.{Unset}
 use Rattle.c_emit.specs.Code.{Coded, comparison_of, operation_code, branch_code, if_code, coded_node}
 use Rattle.c_emit.proofs.Labels.{all-append, LabelBelow, LabelsBelow, labels-more, jumps-behind}
 use Rattle.c_emit.proofs.Simulation.{Meets, Keeps, keeps-then, keeps-assigned, Leads, leads-silent, leads-then, Does, Comes, does-after, does-then}

@@ -2,13 +2,13 @@
 use Rattle.std.proofs.Common.{◌≡◌, ℕ, ℤ, zero, suc, ◌+◌, ◌<◌, ◌≤◌, List, [], ◌∷◌, ◌++◌, length, Option, Some, None, refl, sym, ap, ◌∙◌, subst, arith, get_or, append_assoc}
 use Rattle.std.specs.Prelude.{slice_get, slice_set}
 use Rattle.std.proofs.lemmas.List.{length-set, get_or-set_same}
-use Rattle.ps_base.specs.declared.world.Event.{Event}
-use Rattle.ps_base.specs.declared.world.Event.TheVariants.{Input}
-use Rattle.ps_base.specs.declared.world.Op.TheVariants.{Overflow, Unset}
+use Rattle.byte_store.specs.declared.event.Event.{Event}
+use Rattle.byte_store.specs.declared.event.Event.TheVariants.{Input}
+use Rattle.ps_base.specs.declared.faults.Op.TheVariants.{Overflow, Unset}
 use Rattle.ps_base.specs.Numbers.{fit}
-use Rattle.ps_base.specs.Outcome.{Undefined, Wrong}
-use Rattle.ps_base.specs.Machine.{Goes as Moves}
-use Rattle.ps_base.specs.Worlds.{Surroundings, next_byte, rest_of}
+use Rattle.byte_store.specs.Outcome.{Undefined, Wrong}
+use Rattle.byte_store.specs.Machine.{Goes as Moves}
+use Rattle.byte_store.specs.Worlds.{Surroundings, next_byte, rest_of}
 use Rattle.ps_meaning.specs.declared.program.Expr.TheOpen.{Expr-F}
 use Rattle.ps_meaning.specs.declared.program.Operator.{Operator}
 use Rattle.ps_meaning.specs.declared.program.Operator.TheVariants as source_operators

@@ -2,13 +2,13 @@
 use Rattle.std.proofs.Common.{◌≡◌, ℕ, ℤ, zero, suc, ◌+◌, ◌≤◌, [], length, Option, Some, None, refl, sym, ap, ◌∙◌, subst, arith}
 use Rattle.std.specs.Prelude.{slice_get}
 use Rattle.std.proofs.lemmas.List.{length-replicate}
-use Rattle.ps_base.specs.declared.world.Op.TheVariants.{Unset}
-use Rattle.ps_base.specs.Agree.{Agree, Shallow, FollowsLow, Matches}
-use Rattle.ps_base.specs.Machine.{Move, Ends as Halts, greater, outcome_at, after_move, run_from}
-use Rattle.ps_base.specs.Outcome.{Outcome, Returned, Running, Wrong}
-use Rattle.ps_base.specs.Worlds.{Surroundings}
-use Rattle.ps_base.proofs.Following.{following_agrees, following_shallow}
-use Rattle.ps_base.proofs.Greater.{greater_le}
+use Rattle.ps_base.specs.declared.faults.Op.TheVariants.{Unset}
+use Rattle.byte_store.specs.Agree.{Agree, Shallow, FollowsLow, Matches}
+use Rattle.byte_store.specs.Machine.{Move, Ends as Halts, greater, outcome_at, after_move, run_from}
+use Rattle.byte_store.specs.Outcome.{Outcome, Returned, Running, Wrong}
+use Rattle.byte_store.specs.Worlds.{Surroundings}
+use Rattle.byte_store.proofs.Following.{following_agrees, following_shallow}
+use Rattle.byte_store.proofs.Greater.{greater_le}
 use Rattle.ps_meaning.specs.declared.program.Procedure.{Procedure}
 use Rattle.ps_meaning.specs.declared.program.Program.{Program}
 use Rattle.ps_meaning.specs.Run as source

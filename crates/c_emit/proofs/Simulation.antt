@@ -2,12 +2,12 @@
 use Rattle.std.proofs.Common.{◌≡◌, ◌≢◌, ℕ, ℤ, suc, ◌+◌, ◌<◌, ◌≤◌, List, length, Some, None, refl, sym, ap, ◌∙◌, subst, arith, get_or}
 use Rattle.std.proofs.lemmas.List.{get_or-set_other, length-set}
 use Rattle.std.specs.Prelude.{slice_set}
-use Rattle.ps_base.specs.declared.world.Op.{Op}
+use Rattle.ps_base.specs.declared.faults.Op.{Op}
 use Rattle.ps_base.specs.declared.faults.Place.{Place}
-use Rattle.ps_base.specs.Outcome.{Outcome, End, Running, Undefined, Stuck}
-use Rattle.ps_base.specs.Agree.{Matches}
-use Rattle.ps_base.specs.Machine.{Move, Goes as Moves, Ends as Halts, greater, outcome_at, after_move, run_from}
-use Rattle.ps_base.proofs.Greater.{greater_le}
+use Rattle.byte_store.specs.Outcome.{Outcome, End, Running, Undefined, Stuck}
+use Rattle.byte_store.specs.Agree.{Matches}
+use Rattle.byte_store.specs.Machine.{Move, Goes as Moves, Ends as Halts, greater, outcome_at, after_move, run_from}
+use Rattle.byte_store.proofs.Greater.{greater_le}
 use Rattle.ps_meaning.specs.Run as source
 use Rattle.ps_meaning.specs.Run.{Step, Goes, Stops, and_then}
 use Rattle.c_ast.specs.declared.unit.Atom.{Atom}

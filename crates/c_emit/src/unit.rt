@@ -1,8 +1,8 @@
 //! From programs to units.
 
 ghost use Rattle.std.specs.Prelude.{◌≡◌, ℕ, ◌+◌, ◌<◌, ◌^◌, ◌++◌, ◌∷◌, [], length, map, slice_set, OnOk, IfOk};
-ghost use Rattle.ps_base.specs.Agree.{Agree, Shallow};
-ghost use Rattle.ps_base.specs.Worlds.{Surroundings};
+ghost use Rattle.byte_store.specs.Agree.{Agree, Shallow};
+ghost use Rattle.byte_store.specs.Worlds.{Surroundings};
 ghost use Rattle.ps_meaning.specs.Meaning.{Source};
 ghost use Rattle.ps_meaning.specs.Size.{program_size};
 ghost use Rattle.ps_meaning.specs.Valid.{IsValid};

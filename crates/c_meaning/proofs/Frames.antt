@@ -3,10 +3,10 @@ use Rattle.std.proofs.Common.{◌≡◌, ℕ, suc, ℤ, ◌+◌, ◌-◌, ◌<�
 use Rattle.std.specs.Prelude.{is_some, slice_get, slice_set}
 use Rattle.std.specs.List.{AllByRecursion}
 use Rattle.std.proofs.lemmas.List.{map-append, append_assoc, take_more, set_at, length-map, length-take-le}
-use Rattle.ps_base.specs.declared.world.Event.{Event}
-use Rattle.ps_base.specs.declared.world.Op.TheVariants.{Unset}
-use Rattle.ps_base.specs.Machine.{Move, Goes}
-use Rattle.ps_base.specs.Worlds.{Surroundings}
+use Rattle.byte_store.specs.declared.event.Event.{Event}
+use Rattle.ps_base.specs.declared.faults.Op.TheVariants.{Unset}
+use Rattle.byte_store.specs.Machine.{Move, Goes}
+use Rattle.byte_store.specs.Worlds.{Surroundings}
 use Rattle.c_ast.specs.declared.unit.CFunction.{CFunction}
 use Rattle.c_ast.specs.declared.unit.CUnit.{CUnit}
 use Rattle.c_ast.specs.declared.unit.Statement.{Statement}

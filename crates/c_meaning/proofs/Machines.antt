@@ -1,16 +1,16 @@
 -- Laws of the machine.
 use Rattle.std.proofs.Common.{ℕ, ℤ, true, false, List, [], ◌∷◌, Option, Some, None, refl, subst}
 use Rattle.std.specs.Prelude.{if◌then◌else◌, slice_get}
-use Rattle.ps_base.specs.declared.world.Op.{Op}
-use Rattle.ps_base.specs.declared.world.Op.TheVariants.{Overflow, Byte, Unset}
-use Rattle.ps_base.specs.declared.world.Event.TheVariants.{Input, Output}
+use Rattle.ps_base.specs.declared.faults.Op.{Op}
+use Rattle.ps_base.specs.declared.faults.Op.TheVariants.{Overflow, Byte, Unset}
+use Rattle.byte_store.specs.declared.event.Event.TheVariants.{Input, Output}
 use Rattle.ps_base.specs.Numbers.{fit, byte_of}
-use Rattle.ps_base.specs.Outcome.{Begins}
-use Rattle.ps_base.specs.Agree.{Deepens}
-use Rattle.ps_base.specs.Machine.{Move, Goes, Ends, OnlyAdds}
-use Rattle.ps_base.specs.Worlds.{Surroundings, next_byte}
-use Rattle.ps_base.proofs.Fronts.{begins_self}
-use Rattle.ps_base.proofs.Machine.{machine_keeps, machine_deepens}
+use Rattle.byte_store.specs.Outcome.{Begins}
+use Rattle.byte_store.specs.Agree.{Deepens}
+use Rattle.byte_store.specs.Machine.{Move, Goes, Ends, OnlyAdds}
+use Rattle.byte_store.specs.Worlds.{Surroundings, next_byte}
+use Rattle.byte_store.proofs.Fronts.{begins_self}
+use Rattle.byte_store.proofs.Machine.{machine_keeps, machine_deepens}
 use Rattle.c_ast.specs.declared.unit.CFunction.{CFunction}
 use Rattle.c_ast.specs.declared.unit.CUnit.{CUnit}
 use Rattle.c_ast.specs.declared.unit.Statement.{Statement}

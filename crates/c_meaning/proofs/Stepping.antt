@@ -4,12 +4,12 @@ use Rattle.std.specs.Prelude.{if◌then◌else◌, pos, slice_get, slice_set, op
 use Rattle.std.specs.List.{AllByRecursion}
 use Rattle.std.proofs.lemmas.List.{length-set, length-map, length-replicate, drop_more}
 use Rattle.std.proofs.lemmas.Option.{slice_get-map, slice_get_within, get_or_from_slice_get}
-use Rattle.ps_base.specs.declared.world.Event.{Event}
-use Rattle.ps_base.specs.declared.world.Op.{Op}
-use Rattle.ps_base.specs.declared.world.Op.TheVariants.{Overflow, Byte, Unset}
+use Rattle.byte_store.specs.declared.event.Event.{Event}
+use Rattle.ps_base.specs.declared.faults.Op.{Op}
+use Rattle.ps_base.specs.declared.faults.Op.TheVariants.{Overflow, Byte, Unset}
 use Rattle.ps_base.specs.Numbers.{fit, byte_of}
-use Rattle.ps_base.specs.Machine.{Move, Goes, Ends}
-use Rattle.ps_base.specs.Worlds.{Surroundings, next_byte}
+use Rattle.byte_store.specs.Machine.{Move, Goes, Ends}
+use Rattle.byte_store.specs.Worlds.{Surroundings, next_byte}
 use Rattle.c_ast.specs.declared.unit.CFunction.{CFunction}
 use Rattle.c_ast.specs.declared.unit.CUnit.{CUnit}
 use Rattle.c_ast.specs.declared.unit.Statement.{Statement}

@@ -1,6 +1,6 @@
 -- The law of the machine.
-use Rattle.ps_base.specs.Agree.{KeepsWhatItHas}
-use Rattle.ps_base.specs.Worlds.{Surroundings}
+use Rattle.byte_store.specs.Agree.{KeepsWhatItHas}
+use Rattle.byte_store.specs.Worlds.{Surroundings}
 use Rattle.c_ast.specs.declared.unit.CUnit.{CUnit}
 use Rattle.c_meaning.specs.Machine.{CRun}
 

@@ -1,14 +1,14 @@
 -- What a unit does: a machine that performs one statement a step (C99 5.1.2.3, 6.5.2.2 and 6.8 in this subset). What C99 leaves undefined, it is stuck at.
 use Rattle.std.specs.Prelude.{ℕ, ℤ, pos, negsuc, ◌+◌, ◌+ℤ◌, ◌-ℤ◌, ◌*ℤ◌, int_lt, nat_eq, Bool, false, if◌then◌else◌, List, [], ◌∷◌, ◌++◌, length, map, Option, Some, None, slice_index_or, slice_get, slice_set, replicate}
 use Rattle.std.specs.Ordering.{int_eq}
-use Rattle.ps_base.specs.declared.world.Event.{Event}
-use Rattle.ps_base.specs.declared.world.Event.TheVariants.{Input, Output}
-use Rattle.ps_base.specs.declared.world.Op.{Op}
-use Rattle.ps_base.specs.declared.world.Op.TheVariants.{Overflow, Byte, Unset}
+use Rattle.byte_store.specs.declared.event.Event.{Event}
+use Rattle.byte_store.specs.declared.event.Event.TheVariants.{Input, Output}
+use Rattle.ps_base.specs.declared.faults.Op.{Op}
+use Rattle.ps_base.specs.declared.faults.Op.TheVariants.{Overflow, Byte, Unset}
 use Rattle.ps_base.specs.Numbers.{fit, byte_of}
-use Rattle.ps_base.specs.Outcome.{Outcomes, Returned, Stuck}
-use Rattle.ps_base.specs.Machine.{Move, Goes, Ends, Machine, machine_run}
-use Rattle.ps_base.specs.Worlds.{Surroundings, next_byte, rest_of}
+use Rattle.byte_store.specs.Outcome.{Outcomes, Returned, Stuck}
+use Rattle.byte_store.specs.Machine.{Move, Goes, Ends, Machine, machine_run}
+use Rattle.byte_store.specs.Worlds.{Surroundings, next_byte, rest_of}
 use Rattle.c_ast.specs.declared.unit.Atom.{Atom}
 use Rattle.c_ast.specs.declared.unit.Atom.TheVariants as atoms
 use Rattle.c_ast.specs.declared.unit.BinaryOperator.{BinaryOperator}

@@ -1,10 +1,10 @@
 -- What a run by code has to do with the machine: the code keeps, for each frame, the place of the next statement.
 use Rattle.std.specs.Prelude.{◌≡◌, ℕ, ℤ, ◌+◌, ◌<◌, List, [], ◌∷◌, ◌++◌, drop, length, slice_get, Some, ◌⊎◌}
 use Rattle.std.specs.List.{AllByRecursion}
-use Rattle.ps_base.specs.declared.world.Event.{Event}
-use Rattle.ps_base.specs.Outcome.{Returned, Stuck}
-use Rattle.ps_base.specs.Machine.{Move, Goes, Ends}
-use Rattle.ps_base.specs.Worlds.{Surroundings}
+use Rattle.byte_store.specs.declared.event.Event.{Event}
+use Rattle.byte_store.specs.Outcome.{Returned, Stuck}
+use Rattle.byte_store.specs.Machine.{Move, Goes, Ends}
+use Rattle.byte_store.specs.Worlds.{Surroundings}
 use Rattle.c_ast.specs.declared.unit.CUnit.{CUnit}
 use Rattle.c_ast.specs.declared.unit.CFunction.{CFunction}
 use Rattle.c_ast.specs.WellFormed.{IsStatement, variables_of, IsWellFormed}

@@ -10,8 +10,9 @@ use crate::perform::{
     perform_operation, perform_read, perform_return, perform_write,
 };
 use crate::stack::Waiting;
+use byte_store::{Events, World};
 use c_ast::{CUnit, Statement};
-use ps_base::{Events, Items, NoMemory, Op, World};
+use ps_base::{Items, NoMemory, Op};
 use std::alloc::Global;
 use std::marker::Model;
 

@@ -8,8 +8,9 @@ ghost use Rattle.c_meaning.specs.Steps.{HasTarget, PerformsAnywhere, PerformsQui
 use crate::machine::{CState, StepOut};
 use crate::stack::Waiting;
 use crate::values::{are_assigned, byte, operate, value_of, variables_of_call};
+use byte_store::{Event, Events, World};
 use c_ast::{Atom, BinaryOperator, CUnit, Statement};
-use ps_base::{Event, Events, Items, NoMemory, Op, World};
+use ps_base::{Items, NoMemory, Op};
 use std::mem;
 
 // Assigns a variable, and goes on with the next statement.

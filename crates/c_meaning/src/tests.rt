@@ -4,12 +4,13 @@ ghost use Rattle.std.specs.Prelude.{◌≡◌, IfOk};
 ghost use Rattle.c_ast.specs.WellFormed.{IsWellFormed};
 
 use crate::*;
+use byte_store::Event::{Input, Output};
+use byte_store::{Events, World};
 use c_ast::Atom::{Integer, Variable};
 use c_ast::BinaryOperator::{Add, Equal, Less, Multiply, Subtract};
 use c_ast::Statement::{Call, Goto, IfGoto, Label, Move, Operation, Read, Return, Write};
 use c_ast::{BinaryOperator, CFunction, CUnit, Statement};
-use ps_base::Event::{Input, Output};
-use ps_base::{Events, Items, NoMemory, Op, World};
+use ps_base::{Items, NoMemory, Op};
 use std::alloc::Global;
 use std::test::Fail;
 

@@ -1,9 +1,2 @@
-pub mod Fronts
-pub mod Agree
-pub mod Progress
-pub mod Following
-pub mod Greater
-pub mod Machine
 pub mod Writing
-pub mod Remainders
 pub mod Tables

@@ -5,7 +5,3 @@ pub mod Names
 pub mod SinkStates
 pub mod Sinks
 pub mod Texts
-pub mod Worlds
-pub mod Outcome
-pub mod Agree
-pub mod Machine

@@ -5,7 +5,6 @@ ghost use Rattle.ps_base.specs.Faults.{number_of};
 
 use crate::memory::NoMemory;
 use crate::names::Name;
-use crate::world::Op;
 
 /// A place in a text.
 #[derive(Clone, Copy, Debug, PartialEq, Eq)]
@@ -16,6 +15,31 @@ pub struct Place {
     pub line: u32,
     /// The byte in its line, counted from 1.
     pub column: u32,
+}
+
+/// Why an operation has no meaning for its operands.
+#[derive(Clone, Copy, Debug, PartialEq, Eq)]
+pub enum Op {
+    /// The result has no 64 bits.
+    Overflow,
+    /// The divisor is 0, or the quotient has no 64 bits.
+    Division,
+    /// A shift by a count outside 0 to 63.
+    Shift,
+    /// A character's code outside 0 to 255.
+    Char,
+    /// A byte outside 0 to 255.
+    Byte,
+    /// A size that no block may have.
+    Size,
+    /// A pointer to no block, or a place outside a block.
+    Bounds,
+    /// What is read was never set.
+    Unset,
+    /// A block that was freed.
+    Freed,
+    /// Two pointers into different blocks, which have no distance and no order.
+    Blocks,
 }
 
 /// What is wrong with the tokens or data of a text (R5RS 7.1.1 and 7.1.2, in this project's profile).

@@ -1,5 +1,5 @@
-//! Names in a table, bytes of a world, the numbers of faults, the standard limits, and pieces of a text into a sink that
-//! fails in mid-stream.
+//! Names in a table, the numbers of faults, the standard limits, and pieces of a text into a sink that fails in
+//! mid-stream.
 
 ghost use Rattle.std.specs.Prelude.{◌<◌, ◌^◌, Some, length, decimal, refl};
 ghost use Rattle.ps_base.specs.Numbers.{more};
@@ -31,25 +31,6 @@ fn numbers_texts_in_order(rt: HostRuntime) -> Result<(), Fail> {
         assert_eq!(rt; names.text(name), text);
     }
     assert!(rt; !names.is_empty());
-    Ok(())
-}
-
-#[test]
-fn reads_and_grants_to_the_end(rt: HostRuntime) -> Result<(), Fail> {
-    let alloc = rt.alloc();
-    let input = Items::from_slice(alloc, &[0, 104, 255])?;
-    let grants = Items::from_slice(alloc, &[true, false, true])?;
-    let mut world = World::new(input, grants);
-    for (byte, grant) in [
-        (0, true),
-        (104, false),
-        (255, true),
-        (-1, false),
-        (-1, false),
-    ] {
-        assert_eq!(rt; world.read(), byte);
-        assert_eq!(rt; world.granted(), grant);
-    }
     Ok(())
 }
 
@@ -179,12 +160,17 @@ impl Style<u64> for Numbered {
 #[test]
 fn puts_pieces_until_the_first_fault(rt: HostRuntime) -> Result<(), Fail> {
     let alloc = rt.alloc();
-    // Each piece has at most two bytes, so it is one call of the sink.
+    // Each piece but the last has at most two bytes, so it is one call of the sink.
     let numbers = Items::from_slice(alloc, &[70, 80, 90])?;
     let table = [
-        (99, Ok(()), b"n=0:070180290:970".as_slice()),
+        (
+            99,
+            Ok(()),
+            b"n=0:070180290:9700-1-9223372036854775808".as_slice(),
+        ),
         (1, Err(SinkFault), b"n="),
         (5, Err(SinkFault), b"n=0:070"),
+        (13, Err(SinkFault), b"n=0:070180290:9700"),
     ];
     for (failing, want, text) in table {
         let mut out = empty_sink(alloc, failing);
@@ -194,6 +180,9 @@ fn puts_pieces_until_the_first_fault(rt: HostRuntime) -> Result<(), Fail> {
         let so_far = put_all::<Numbered, u64, Memory>(&mut out, so_far, &numbers);
         let so_far = put(&mut out, so_far, b":");
         let so_far = put_each::<Numbered, u64, Memory>(&mut out, so_far, 9, &[70]);
+        let so_far = put_integer(&mut out, so_far, 0);
+        let so_far = put_integer(&mut out, so_far, -1);
+        let so_far = put_integer(&mut out, so_far, i64::MIN);
         assert_eq!(rt; so_far, want, "call {failing} fails");
         assert_eq!(rt; out.bytes.as_slice(), text, "call {failing} fails");
     }

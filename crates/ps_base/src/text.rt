@@ -2,6 +2,7 @@
 //! the answer to the end. Nothing here takes memory.
 
 ghost use Rattle.std.specs.Prelude.{ℕ, ◌+◌, ◌<◌, ◌^◌, List, length, decimal};
+ghost use Rattle.std.specs.Fmt.{signed_decimal};
 ghost use Rattle.ps_base.specs.Sinks.{Adds};
 ghost use Rattle.ps_base.specs.Texts.{each};
 
@@ -25,6 +26,14 @@ pub fn put<O: Sink>(out: &mut O, so_far: Written, bytes: &[u8]) -> Written
 /// Appends the decimal digits of the number, unless a fault came before.
 pub fn put_number<O: Sink>(out: &mut O, so_far: Written, number: u64) -> Written
     ensures { Adds (O.shows out.old) so_far (O.shows out.new) result (decimal number) }
+{
+    let mut buffer = Buffer::new();
+    put(out, so_far, buffer.format(number).as_bytes())
+}
+
+/// Appends the decimal digits of the integer, behind `-` where it is negative, unless a fault came before.
+pub fn put_integer<O: Sink>(out: &mut O, so_far: Written, number: i64) -> Written
+    ensures { Adds (O.shows out.old) so_far (O.shows out.new) result (signed_decimal number) }
 {
     let mut buffer = Buffer::new();
     put(out, so_far, buffer.format(number).as_bytes())

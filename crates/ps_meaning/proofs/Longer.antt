@@ -1,11 +1,11 @@
 -- What a part of a run does with more calls left.
 use Rattle.std.proofs.Common.{◌≡◌, ℕ, zero, suc, ◌+◌, List, [], ◌∷◌, Option, Some, None, refl, sym, ap, subst, arith}
 use Rattle.std.specs.Prelude.{Bool, true, false, if◌then◌else◌}
-use Rattle.ps_base.specs.declared.world.Event.{Event}
-use Rattle.ps_base.specs.declared.world.Event.TheVariants.{Input}
-use Rattle.ps_base.specs.Outcome.{End, Returned, Running, Undefined, Stuck, Wrong, StoppedAtCells, Begins}
-use Rattle.ps_base.specs.Worlds.{next_byte}
-use Rattle.ps_base.proofs.Fronts.{begins_self, begins_trans}
+use Rattle.byte_store.specs.declared.event.Event.{Event}
+use Rattle.byte_store.specs.declared.event.Event.TheVariants.{Input}
+use Rattle.byte_store.specs.Outcome.{End, Returned, Running, Undefined, Stuck, Wrong, StoppedAtCells, Begins}
+use Rattle.byte_store.specs.Worlds.{next_byte}
+use Rattle.byte_store.proofs.Fronts.{begins_self, begins_trans}
 use Rattle.ps_meaning.proofs.Related.{Keeps}
 use Rattle.ps_meaning.specs.Run.{State, Step, Goes, Stops, Run, and_then, ◌>>=◌, pure, stop, known, take_one, take_call, at_depth, note, read_byte}
 

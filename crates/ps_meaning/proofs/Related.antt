@@ -2,8 +2,8 @@
 use Rattle.std.proofs.Common.{ℕ, ℤ, ◌+◌, List, [], ◌∷◌, map, Option, sym, subst}
 use Rattle.std.specs.Prelude.{Bool, if◌then◌else◌}
 use Rattle.std.specs.List.{AllByRecursion}
-use Rattle.ps_base.specs.declared.world.Event.{Event}
-use Rattle.ps_base.specs.Outcome.{End}
+use Rattle.byte_store.specs.declared.event.Event.{Event}
+use Rattle.byte_store.specs.Outcome.{End}
 use Rattle.ps_meaning.specs.declared.program.Expr.{Expr}
 use Rattle.ps_meaning.specs.declared.program.Procedure.{Procedure}
 use Rattle.ps_meaning.specs.Run.{Run, ◌>>=◌, pure, known, note, read_byte}

@@ -1,8 +1,8 @@
 -- Parts of a run that do the same wherever few enough procedures may still be entered.
 use Rattle.std.proofs.Common.{◌≡◌, ℕ, ℤ, zero, suc, ◌<◌, ◌≤◌, Option, Some, None, refl, ap, ◌∙◌, arith}
 use Rattle.std.specs.Prelude.{Bool, true, false, if◌then◌else◌}
-use Rattle.ps_base.specs.declared.world.Event.{Event}
-use Rattle.ps_base.specs.Outcome.{End}
+use Rattle.byte_store.specs.declared.event.Event.{Event}
+use Rattle.byte_store.specs.Outcome.{End}
 use Rattle.ps_meaning.specs.Run.{State, Step, Goes, Stops, Run, and_then, ◌>>=◌, pure, known, take_one, take_call, at_depth, note, read_byte}
 use Rattle.ps_meaning.proofs.Related.{Keeps}
 

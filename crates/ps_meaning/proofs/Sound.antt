@@ -1,8 +1,8 @@
 -- Parts of a run that end neither Wrong nor out of cells, and what their values are.
 use Rattle.std.proofs.Common.{ℕ, zero, suc, Option, Some, None}
 use Rattle.std.specs.Prelude.{Bool, true, false, if◌then◌else◌}
-use Rattle.ps_base.specs.declared.world.Event.{Event}
-use Rattle.ps_base.specs.Outcome.{End, IsSound}
+use Rattle.byte_store.specs.declared.event.Event.{Event}
+use Rattle.byte_store.specs.Outcome.{End, IsSound}
 use Rattle.ps_meaning.specs.Run.{State, Step, Goes, Stops, Run, and_then, ◌>>=◌, pure, known, take_one, take_call, at_depth, note, read_byte}
 
 abbrev pub SoundStep : {A : Type 0} → (A → Type 0) → Step A → Type 0

@@ -6,9 +6,9 @@ use Rattle.std.specs.Option.{option_map}
 use Rattle.std.proofs.lemmas.List.{length-map}
 use Rattle.std.proofs.lemmas.Option.{slice_get-map}
 use Rattle.std.proofs.lemmas.Bool.{eq-eqb, ltb-true}
-use Rattle.ps_base.specs.Outcome.{Undefined, Wrong}
-use Rattle.ps_base.specs.declared.world.Op.TheVariants.{Byte}
-use Rattle.ps_base.specs.declared.world.Event.TheVariants.{Output}
+use Rattle.byte_store.specs.Outcome.{Undefined, Wrong}
+use Rattle.ps_base.specs.declared.faults.Op.TheVariants.{Byte}
+use Rattle.byte_store.specs.declared.event.Event.TheVariants.{Output}
 use Rattle.ps_base.specs.Numbers.{byte_of}
 use Rattle.ps_meaning.specs.declared.program.Expr.{Expr}
 use Rattle.ps_meaning.specs.declared.program.Expr.TheOpen.{Expr-F}

@@ -1,7 +1,7 @@
 -- Laws of the source's definitions.
 use Rattle.std.specs.Prelude.{◌≡◌, ℕ, ℤ, ◌≤◌, List, None, ◌↔◌}
-use Rattle.ps_base.specs.Agree.{KeepsWhatItHas, IsSoundRun}
-use Rattle.ps_base.specs.Worlds.{Surroundings}
+use Rattle.byte_store.specs.Agree.{KeepsWhatItHas, IsSoundRun}
+use Rattle.byte_store.specs.Worlds.{Surroundings}
 use Rattle.ps_datum.specs.declared.datum.Datum.{Datum}
 use Rattle.ps_datum.specs.Weight.{weights}
 use Rattle.ps_meaning.specs.declared.program.Program.{Program}

@@ -2,11 +2,11 @@
 use Rattle.std.specs.Prelude.{ℕ, zero, suc, ℤ, ◌+◌, ◌+ℤ◌, ◌-ℤ◌, ◌*ℤ◌, int_lt, Bool, if◌then◌else◌, nat_eq, List, [], ◌∷◌, length, Option, Some, None, slice_get}
 use Rattle.std.specs.Ordering.{int_eq}
 use Rattle.ps_base.specs.declared.faults.Place.{Place}
-use Rattle.ps_base.specs.declared.world.Op.TheVariants.{Overflow, Byte}
-use Rattle.ps_base.specs.declared.world.Event.TheVariants.{Output}
+use Rattle.ps_base.specs.declared.faults.Op.TheVariants.{Overflow, Byte}
+use Rattle.byte_store.specs.declared.event.Event.TheVariants.{Output}
 use Rattle.ps_base.specs.Numbers.{fit, byte_of}
-use Rattle.ps_base.specs.Outcome.{Outcome, Outcomes, Returned, Running, Undefined, Wrong}
-use Rattle.ps_base.specs.Worlds.{Surroundings}
+use Rattle.byte_store.specs.Outcome.{Outcome, Outcomes, Returned, Running, Undefined, Wrong}
+use Rattle.byte_store.specs.Worlds.{Surroundings}
 use Rattle.ps_meaning.specs.declared.program.Expr.{Expr, fold-Expr}
 use Rattle.ps_meaning.specs.declared.program.Expr.TheOpen.{Expr-F}
 use Rattle.ps_meaning.specs.declared.program.Operator.{Operator}

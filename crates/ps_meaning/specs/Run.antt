@@ -1,9 +1,9 @@
 -- Parts of a run: what evaluating does to the state of a run, as a state monad with an end (this project's own).
 use Rattle.std.specs.Prelude.{ℕ, ℤ, zero, suc, max, List, [], ◌∷◌, ◌++◌, Option, Some, None}
-use Rattle.ps_base.specs.declared.world.Event.{Event}
-use Rattle.ps_base.specs.declared.world.Event.TheVariants.{Input}
-use Rattle.ps_base.specs.Outcome.{End, Running}
-use Rattle.ps_base.specs.Worlds.{Surroundings, next_byte, rest_of}
+use Rattle.byte_store.specs.declared.event.Event.{Event}
+use Rattle.byte_store.specs.declared.event.Event.TheVariants.{Input}
+use Rattle.byte_store.specs.Outcome.{End, Running}
+use Rattle.byte_store.specs.Worlds.{Surroundings, next_byte, rest_of}
 
 pub record State : Type 0 where
   -- how many procedures may still be entered

@@ -1,7 +1,7 @@
 -- The headline: what it means that bytes written are a right translation of a text, and why a text has none (this project's own).
 use Rattle.std.specs.Prelude.{◌≡◌, ℕ, List, [], Some}
-use Rattle.ps_base.specs.Agree.{Agree, Shallow}
-use Rattle.ps_base.specs.Worlds.{Surroundings}
+use Rattle.byte_store.specs.Agree.{Agree, Shallow}
+use Rattle.byte_store.specs.Worlds.{Surroundings}
 use Rattle.ps_base.specs.declared.faults.Place.{Place}
 use Rattle.ps_base.specs.declared.faults.SyntaxKind.{SyntaxKind}
 use Rattle.ps_datum.specs.declared.datum.Datum.{Datum}

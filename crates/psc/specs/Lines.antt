@@ -8,8 +8,8 @@ use Rattle.ps_base.specs.declared.faults.Place.{Place}
 use Rattle.ps_base.specs.declared.names.Name.{Name}
 use Rattle.psc.specs.declared.answer.Answer.{Answer}
 use Rattle.psc.specs.declared.answer.Answer.TheVariants as answers
-use Rattle.ps_base.specs.declared.world.Op.{Op}
-use Rattle.ps_base.specs.declared.world.Op.TheVariants as ops
+use Rattle.ps_base.specs.declared.faults.Op.{Op}
+use Rattle.ps_base.specs.declared.faults.Op.TheVariants as ops
 use Rattle.ps_base.specs.declared.faults.SyntaxKind.{SyntaxKind}
 use Rattle.ps_base.specs.declared.faults.SyntaxKind.TheVariants as syntaxes
 use Rattle.ps_base.specs.declared.faults.ModuleKind.{ModuleKind}

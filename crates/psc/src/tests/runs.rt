@@ -3,8 +3,9 @@
 ghost use Rattle.std.specs.Prelude.{◌≤◌, length};
 
 use crate::translation::translate;
+use byte_store::{Event, World};
 use c_meaning::{CState, StepOut, step};
-use ps_base::{Event, Items, Op, World};
+use ps_base::{Items, Op};
 use std::alloc::Global;
 use std::test::Fail;
 

@@ -1,5 +1,5 @@
 use Rattle.std.proofs.Common.{sym, subst}
-use Rattle.ps_base.specs.Agree.{Agree, Shallow}
+use Rattle.byte_store.specs.Agree.{Agree, Shallow}
 use Rattle.ps_meaning.specs.Meaning.{Source}
 use Rattle.c_ast.specs.WellFormed.{IsWellFormed}
 use Rattle.c_meaning.specs.Machine.{CRun}

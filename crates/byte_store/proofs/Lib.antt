@@ -1,0 +1,12 @@
+pub mod Fronts
+pub mod Agree
+pub mod Progress
+pub mod Following
+pub mod Greater
+pub mod Machine
+pub mod Remainders
+pub mod Places
+pub mod Lookups
+pub mod Edits
+pub mod Changes
+pub mod Validity

@@ -1,0 +1,5 @@
+use Rattle.byte_store.proofs.Following.{following_shallow}
+use Rattle.byte_store.proofs.runs.following_gives_shallow.Goals as goal
+
+pub returns : goal.returns
+returns c = following_shallow

@@ -1,0 +1,5 @@
+use Rattle.byte_store.proofs.Agree.{same_agrees}
+use Rattle.byte_store.proofs.runs.same_each_agrees.Goals as goal
+
+pub returns : goal.returns
+returns c = same_agrees

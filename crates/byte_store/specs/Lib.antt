@@ -1,0 +1,10 @@
+pub mod Words
+pub mod Worlds
+pub mod Outcome
+pub mod Agree
+pub mod Machine
+pub mod Blocks
+pub mod Operations
+pub mod Store
+pub mod Inside
+pub mod Lines

@@ -1,0 +1,30 @@
+//! The memory of a program and the world that it runs in: blocks and pointers, what is seen from outside, and the laws of
+//! runs, which say what it means that two of them agree.
+#![tactic(auto)]
+
+mod accesses;
+mod block;
+mod event;
+mod fault;
+mod lines;
+mod lists;
+mod pointer;
+mod pointers;
+mod runs;
+mod store;
+mod world;
+
+pub use event::{Event, Events};
+pub use fault::StoreFault;
+pub use lines::write_event;
+pub use pointer::{Base, Cell, Pointer, Value, Word};
+pub use runs::{
+    agree_is_transitive, agree_where_defined, following_gives_agree, following_gives_shallow,
+    growing_keeps, progress_gives_agree, same_each_agrees, shallow_composes,
+    shallow_so_far_composes,
+};
+pub use store::{Store, pointers_stay};
+pub use world::World;
+
+#[cfg(test)]
+mod tests;
