@@ -1,0 +1,67 @@
+-- The rows of the groups that are performed alike. No public clause cites this file.
+use Rattle.ps_base.specs.declared.language.PrimName.TheVariants as prims
+use Rattle.byte_store.specs.declared.pointer.Value.{Value}
+use Rattle.ps_prims.specs.declared.groups.Group.{Group}
+use Rattle.ps_prims.specs.declared.groups.Group.TheVariants as groups
+use Rattle.ps_prims.specs.declared.groups.Plain.{Plain}
+use Rattle.ps_prims.specs.declared.groups.Plain.TheVariants as plain
+use Rattle.ps_prims.specs.declared.groups.Look.{Look}
+use Rattle.ps_prims.specs.declared.groups.Look.TheVariants as look
+use Rattle.ps_prims.specs.declared.groups.Change.{Change}
+use Rattle.ps_prims.specs.declared.groups.Change.TheVariants as change
+use Rattle.ps_prims.specs.declared.groups.Make.{Make}
+use Rattle.ps_prims.specs.declared.groups.Make.TheVariants as make
+use Rattle.ps_prims.specs.Sorts.{first_order}
+use Rattle.ps_prims.specs.Rows.{Row, row, arithmetic, comparison, test}
+use Rattle.ps_prims.specs.Inside.{calculated, divided, shifted, compared, tested}
+
+abbrev pub plain_row : Plain → Row Value
+plain_row plain.BitwiseNot = row first_order prims.BitwiseNot
+plain_row plain.Not = row first_order prims.Not
+plain_row plain.BooleanEqual = row first_order prims.BooleanEqual
+plain_row plain.CharEqual = row first_order prims.CharEqual
+plain_row plain.CharLess = row first_order prims.CharLess
+plain_row plain.CharToAscii = row first_order prims.CharToAscii
+plain_row plain.AsciiToChar = row first_order prims.AsciiToChar
+plain_row plain.Unspecific = row first_order prims.Unspecific
+plain_row plain.NullAddress = row first_order prims.NullAddress
+
+abbrev pub look_row : Look → Row Value
+look_row look.StringLength = row first_order prims.StringLength
+look_row look.StringRef = row first_order prims.StringRef
+look_row look.VectorRef = row first_order prims.VectorRef
+look_row look.IsNullVector = row first_order prims.IsNullVector
+look_row look.IsNullAddress = row first_order prims.IsNullAddress
+look_row look.ByteRef = row first_order prims.UnsignedByteRef
+look_row look.WordRef = row first_order prims.WordRef
+look_row look.AddressAdd = row first_order prims.AddressAdd
+look_row look.AddressDifference = row first_order prims.AddressDifference
+look_row look.AddressEqual = row first_order prims.AddressEqual
+look_row look.AddressLess = row first_order prims.AddressLess
+look_row look.StringEqual = row first_order prims.StringEqual
+look_row look.VectorLength = row first_order prims.VectorLength
+
+abbrev pub change_row : Change → Row Value
+change_row change.VectorSet = row first_order prims.VectorSet
+change_row change.DeallocateVector = row first_order prims.DeallocateVector
+change_row change.DeallocateMemory = row first_order prims.DeallocateMemory
+change_row change.ByteSet = row first_order prims.UnsignedByteSet
+change_row change.WordSet = row first_order prims.WordSet
+
+abbrev pub make_row : Make → Row Value
+make_row make.Vector = row first_order prims.MakeVector
+make_row make.Memory = row first_order prims.AllocateMemory
+make_row make.String = row first_order prims.StringAppend
+
+abbrev pub group_row : Group → Row Value
+group_row (groups.Arithmetic o) = arithmetic first_order (calculated o)
+group_row (groups.Division o) = arithmetic first_order (divided o)
+group_row (groups.Shift o) = arithmetic first_order (shifted o)
+group_row (groups.Comparison o) = comparison first_order (compared o)
+group_row (groups.Sign o) = test first_order (tested o)
+group_row (groups.Plain o) = plain_row o
+group_row (groups.Look o) = look_row o
+group_row (groups.Change o) = change_row o
+group_row (groups.Make o) = make_row o
+group_row groups.ReadByte = row first_order prims.ReadByte
+group_row groups.WriteByte = row first_order prims.WriteByte

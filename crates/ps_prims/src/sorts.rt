@@ -1,0 +1,148 @@
+//! What primitives take and answer.
+
+ghost use Rattle.std.specs.Prelude.{◌≡◌};
+ghost use Rattle.ps_prims.specs.Sorts.{first_order};
+ghost use Rattle.ps_prims.specs.Rows.{row};
+
+use ps_base::Prim;
+
+/// The type of an operand or an answer of a primitive.
+#[derive(Clone, Copy, Debug, PartialEq, Eq)]
+pub enum Sort {
+    /// An integer.
+    Integer,
+    /// A boolean.
+    Boolean,
+    /// A character.
+    Char,
+    /// The value of what has no other.
+    Unit,
+    /// An address.
+    Address,
+    /// A string.
+    Text,
+    /// A vector of any type, which is the same one in the whole row.
+    Vector,
+    /// Any type, the same one in the whole row.
+    Any,
+}
+
+/// The sorts of the operands of a primitive, in order.
+pub fn operands_of(p: Prim) -> &'static [Sort]
+    ensures { result.now ≡ (row first_order p).operands }
+{
+    match p {
+        Prim::Add => &[Sort::Integer, Sort::Integer],
+        Prim::Subtract => &[Sort::Integer, Sort::Integer],
+        Prim::Multiply => &[Sort::Integer, Sort::Integer],
+        Prim::Quotient => &[Sort::Integer, Sort::Integer],
+        Prim::Remainder => &[Sort::Integer, Sort::Integer],
+        Prim::Modulo => &[Sort::Integer, Sort::Integer],
+        Prim::Equal => &[Sort::Integer, Sort::Integer],
+        Prim::Less => &[Sort::Integer, Sort::Integer],
+        Prim::Greater => &[Sort::Integer, Sort::Integer],
+        Prim::LessOrEqual => &[Sort::Integer, Sort::Integer],
+        Prim::GreaterOrEqual => &[Sort::Integer, Sort::Integer],
+        Prim::IsZero => &[Sort::Integer],
+        Prim::IsPositive => &[Sort::Integer],
+        Prim::IsNegative => &[Sort::Integer],
+        Prim::BitwiseAnd => &[Sort::Integer, Sort::Integer],
+        Prim::BitwiseOr => &[Sort::Integer, Sort::Integer],
+        Prim::BitwiseXor => &[Sort::Integer, Sort::Integer],
+        Prim::BitwiseNot => &[Sort::Integer],
+        Prim::ShiftLeft => &[Sort::Integer, Sort::Integer],
+        Prim::ArithmeticShiftRight => &[Sort::Integer, Sort::Integer],
+        Prim::LogicalShiftRight => &[Sort::Integer, Sort::Integer],
+        Prim::Not => &[Sort::Boolean],
+        Prim::BooleanEqual => &[Sort::Boolean, Sort::Boolean],
+        Prim::CharEqual => &[Sort::Char, Sort::Char],
+        Prim::CharLess => &[Sort::Char, Sort::Char],
+        Prim::CharToAscii => &[Sort::Char],
+        Prim::AsciiToChar => &[Sort::Integer],
+        Prim::Unspecific => &[],
+        Prim::StringLength => &[Sort::Text],
+        Prim::StringRef => &[Sort::Text, Sort::Integer],
+        Prim::MakeVector => &[Sort::Integer, Sort::Any],
+        Prim::VectorRef => &[Sort::Vector, Sort::Integer],
+        Prim::VectorSet => &[Sort::Vector, Sort::Integer, Sort::Any],
+        Prim::IsNullVector => &[Sort::Vector],
+        Prim::DeallocateVector => &[Sort::Vector],
+        Prim::ReadByte => &[],
+        Prim::WriteByte => &[Sort::Integer],
+        Prim::NullAddress => &[],
+        Prim::IsNullAddress => &[Sort::Address],
+        Prim::AllocateMemory => &[Sort::Integer],
+        Prim::DeallocateMemory => &[Sort::Address],
+        Prim::UnsignedByteRef => &[Sort::Address],
+        Prim::UnsignedByteSet => &[Sort::Address, Sort::Integer],
+        Prim::WordRef => &[Sort::Address],
+        Prim::WordSet => &[Sort::Address, Sort::Integer],
+        Prim::AddressAdd => &[Sort::Address, Sort::Integer],
+        Prim::AddressDifference => &[Sort::Address, Sort::Address],
+        Prim::AddressEqual => &[Sort::Address, Sort::Address],
+        Prim::AddressLess => &[Sort::Address, Sort::Address],
+        Prim::StringAppend => &[Sort::Text, Sort::Text],
+        Prim::StringEqual => &[Sort::Text, Sort::Text],
+        Prim::VectorLength => &[Sort::Vector],
+    }
+}
+
+/// The sort of the answer of a primitive.
+pub fn answer_of(p: Prim) -> Sort
+    ensures { result ≡ (row first_order p).answer }
+{
+    match p {
+        Prim::Add => Sort::Integer,
+        Prim::Subtract => Sort::Integer,
+        Prim::Multiply => Sort::Integer,
+        Prim::Quotient => Sort::Integer,
+        Prim::Remainder => Sort::Integer,
+        Prim::Modulo => Sort::Integer,
+        Prim::Equal => Sort::Boolean,
+        Prim::Less => Sort::Boolean,
+        Prim::Greater => Sort::Boolean,
+        Prim::LessOrEqual => Sort::Boolean,
+        Prim::GreaterOrEqual => Sort::Boolean,
+        Prim::IsZero => Sort::Boolean,
+        Prim::IsPositive => Sort::Boolean,
+        Prim::IsNegative => Sort::Boolean,
+        Prim::BitwiseAnd => Sort::Integer,
+        Prim::BitwiseOr => Sort::Integer,
+        Prim::BitwiseXor => Sort::Integer,
+        Prim::BitwiseNot => Sort::Integer,
+        Prim::ShiftLeft => Sort::Integer,
+        Prim::ArithmeticShiftRight => Sort::Integer,
+        Prim::LogicalShiftRight => Sort::Integer,
+        Prim::Not => Sort::Boolean,
+        Prim::BooleanEqual => Sort::Boolean,
+        Prim::CharEqual => Sort::Boolean,
+        Prim::CharLess => Sort::Boolean,
+        Prim::CharToAscii => Sort::Integer,
+        Prim::AsciiToChar => Sort::Char,
+        Prim::Unspecific => Sort::Unit,
+        Prim::StringLength => Sort::Integer,
+        Prim::StringRef => Sort::Char,
+        Prim::MakeVector => Sort::Vector,
+        Prim::VectorRef => Sort::Any,
+        Prim::VectorSet => Sort::Unit,
+        Prim::IsNullVector => Sort::Boolean,
+        Prim::DeallocateVector => Sort::Unit,
+        Prim::ReadByte => Sort::Integer,
+        Prim::WriteByte => Sort::Unit,
+        Prim::NullAddress => Sort::Address,
+        Prim::IsNullAddress => Sort::Boolean,
+        Prim::AllocateMemory => Sort::Address,
+        Prim::DeallocateMemory => Sort::Unit,
+        Prim::UnsignedByteRef => Sort::Integer,
+        Prim::UnsignedByteSet => Sort::Unit,
+        Prim::WordRef => Sort::Integer,
+        Prim::WordSet => Sort::Unit,
+        Prim::AddressAdd => Sort::Address,
+        Prim::AddressDifference => Sort::Integer,
+        Prim::AddressEqual => Sort::Boolean,
+        Prim::AddressLess => Sort::Boolean,
+        Prim::StringAppend => Sort::Text,
+        Prim::StringEqual => Sort::Boolean,
+        Prim::VectorLength => Sort::Integer,
+    }
+}
