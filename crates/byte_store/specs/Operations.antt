@@ -2,8 +2,8 @@
 --
 -- An operation that has no meaning answers `Err` with its cause. For an access the first of these that holds is the cause:
 -- null is `Bounds`; a freed block is `Freed`; a byte, word or cell that is not wholly inside the block is `Bounds`, and so
--- is a byte in a block of cells and a cell in a block of bytes; what was never set is `Unset`. A base that the store has not
--- leads nowhere, as null does.
+-- is a byte in a block of cells and a cell in a block of bytes; what was never set is `Unset`. An access, a move or a freeing by
+-- a base that the store has not is told as one by null; comparisons look at bases and offsets alone.
 use Rattle.std.specs.Prelude.{ℕ, ℤ, pos, negsuc, zero, suc, ◌+ℤ◌, ◌-ℤ◌, List, [], ◌∷◌, ◌++◌, length, map, take, replicate, Bool, true, false, ◌||◌, ◌&&◌, nat_le, nat_lt, int_lt, if◌then◌else◌, Option, Some, None, Result, Ok, Err}
 use Rattle.std.specs.Ordering.{int_eq}
 use Rattle.std.specs.Int.{w64, from_le_bytes, to_le_bytes, cast_signed, cast_unsigned}

@@ -5,18 +5,20 @@ use Rattle.std.specs.List.{AllByRecursion}
 use Rattle.std.proofs.lemmas.Bool.{and_parts, ltb-true}
 use Rattle.byte_store.specs.declared.event.Event.{Event}
 use Rattle.byte_store.specs.declared.event.Event.TheVariants.{Output}
+use Rattle.ps_base.specs.declared.faults.Place.{Place}
 use Rattle.ps_base.specs.declared.faults.Op.TheVariants.{Byte, Unset}
 use Rattle.ps_base.specs.Numbers.{byte_of}
 use Rattle.byte_store.specs.Outcome.{Undefined}
-use Rattle.ps_meaning.specs.declared.program.Expr.{Expr}
-use Rattle.ps_meaning.specs.declared.program.Expr.TheVariants as exprs
-use Rattle.ps_meaning.specs.declared.program.Procedure.{Procedure}
-use Rattle.ps_meaning.specs.Run as source
-use Rattle.ps_meaning.specs.Run.{Step, Goes, Stops, and_then, known, note}
-use Rattle.ps_meaning.specs.Meaning.{Context, Meaning, meaning_of, eval, write as write_meaning, write_all, body, start_place}
-use Rattle.ps_meaning.specs.Forms.{has_arity}
-use Rattle.ps_meaning.specs.Valid.{Named, all_true, valid_node, valid}
-use Rattle.ps_meaning.proofs.Trees.{induction, fold-integer, fold-parameter, fold-operation, fold-if, fold-call, fold-read}
+use Rattle.ps_plain.specs.declared.program.Expr.{Expr}
+use Rattle.ps_plain.specs.declared.program.Expr.TheVariants as exprs
+use Rattle.ps_plain.specs.declared.program.Write.{Write}
+use Rattle.ps_plain.specs.declared.program.Procedure.{Procedure}
+use Rattle.ps_plain.specs.Run as source
+use Rattle.ps_plain.specs.Run.{Step, Goes, Stops, and_then, known, note}
+use Rattle.ps_plain.specs.Meaning.{Context, Meaning, meaning_of, eval, write as write_meaning, write_all, body}
+use Rattle.ps_plain.specs.Forms.{has_arity}
+use Rattle.ps_plain.specs.Valid.{Named, all_true, valid_node, valid}
+use Rattle.ps_plain.proofs.Trees.{induction, fold-integer, fold-parameter, fold-operation, fold-if, fold-call, fold-read}
 use Rattle.c_ast.specs.declared.unit.Atom.{Atom}
 use Rattle.c_ast.specs.declared.unit.Statement.{Statement}
 use Rattle.c_ast.specs.declared.unit.Statement.TheVariants as statements
@@ -48,21 +50,21 @@ count-is n (e ∷ es) = ap suc (count-is n es)
 
 pub correct : (n : Named) (e : Expr) → valid n e ≡ true → Correct n (eval e) (coded e)
 correct n = induction (IsCorrect n)
-    (λ i. by-clauses n (exprs.Integer i) _ _ _ (fold-integer meaning_of i) (fold-integer coded_node i) (fold-integer (valid_node n) i) (λ v. correct-integer n i))
-    (λ k. by-clauses n (exprs.Parameter k) _ _ _ (fold-parameter meaning_of k) (fold-parameter coded_node k) (fold-parameter (valid_node n) k) (λ v. correct-parameter n k (ltb-true k n.parameters v)))
-    (λ o a b ha hb. by-clauses n (exprs.Operation o a b) _ _ _ (fold-operation meaning_of o a b) (fold-operation coded_node o a b) (fold-operation (valid_node n) o a b)
-    (λ v. let both = and_parts (valid n a) (valid n b) v in correct-operation n o (eval a) (eval b) (coded a) (coded b) (ha both.0) (hb both.1)))
-    (λ q a b c d ha hb hc hd. by-clauses n (exprs.If q a b c d) _ _ _ (fold-if meaning_of q a b c d) (fold-if coded_node q a b c d) (fold-if (valid_node n) q a b c d)
+    (λ p i. by-clauses n (exprs.Integer p i) _ _ _ (fold-integer meaning_of p i) (fold-integer coded_node p i) (fold-integer (valid_node n) p i) (λ v. correct-integer n p i))
+    (λ p k. by-clauses n (exprs.Parameter p k) _ _ _ (fold-parameter meaning_of p k) (fold-parameter coded_node p k) (fold-parameter (valid_node n) p k) (λ v. correct-parameter n p k (ltb-true k n.parameters v)))
+    (λ p o a b ha hb. by-clauses n (exprs.Operation p o a b) _ _ _ (fold-operation meaning_of p o a b) (fold-operation coded_node p o a b) (fold-operation (valid_node n) p o a b)
+    (λ v. let both = and_parts (valid n a) (valid n b) v in correct-operation n p o (eval a) (eval b) (coded a) (coded b) (ha both.0) (hb both.1)))
+    (λ p at q a b c d ha hb hc hd. by-clauses n (exprs.If p at q a b c d) _ _ _ (fold-if meaning_of p at q a b c d) (fold-if coded_node p at q a b c d) (fold-if (valid_node n) p at q a b c d)
     (λ v.
     let last = and_parts (valid n a && valid n b && valid n c) (valid n d) v in
     let third = and_parts (valid n a && valid n b) (valid n c) last.0 in
     let both = and_parts (valid n a) (valid n b) third.0 in
-    correct-if n q (eval a) (eval b) (eval c) (eval d) (coded a) (coded b) (coded c) (coded d) (ha both.0) (hb both.1) (hc third.1) (hd last.1)))
-    (λ f es hs. by-clauses n (exprs.Call f es) _ _ _ (fold-call meaning_of f es) (fold-call coded_node f es) (fold-call (valid_node n) f es)
+    correct-if n p at q (eval a) (eval b) (eval c) (eval d) (coded a) (coded b) (coded c) (coded d) (ha both.0) (hb both.1) (hc third.1) (hd last.1)))
+    (λ p at f es hs. by-clauses n (exprs.Call p at f es) _ _ _ (fold-call meaning_of p at f es) (fold-call coded_node p at f es) (fold-call (valid_node n) p at f es)
     (λ v.
     let both = and_parts (has_arity (length (map (valid n) es)) (slice_get n.procedures f)) (all_true (map (valid n) es)) v in
-    correct-call n f es (all-correct n es hs both.1) (subst (λ m. has_arity m (slice_get n.procedures f) ≡ true) (count-is n es) both.0)))
-    (by-clauses n exprs.ReadByte _ _ _ (fold-read meaning_of) (fold-read coded_node) (fold-read (valid_node n)) (λ v. correct-read n))
+    correct-call n p at f es (all-correct n es hs both.1) (subst (λ m. has_arity m (slice_get n.procedures f) ≡ true) (count-is n es) both.0)))
+    (λ p. by-clauses n (exprs.ReadByte p) _ _ _ (fold-read meaning_of p) (fold-read coded_node p) (fold-read (valid_node n) p) (λ v. correct-read n p))
 
 -- ---- the bytes that are written
 
@@ -85,10 +87,10 @@ abbrev source_written : source.State → ℤ → source.State
 source_written σ b = record σ { events = σ.events ++ Output b ∷ [] }
 
 -- the value of an expression is there, and is a byte or not
-byte-does : (u : CUnit) (s : State) (k n : ℕ) (a : Atom) (rest : List Statement) (t : State) (v : ℤ) (τ : source.State) (q : Option ℤ) → t.left ≡ statements.Write n a ∷ rest → Meets t τ → Keeps k s t → k ≤ n → atom_value t.locals a ≡ Some v → byte_of v ≡ q
-    → Does u t τ (Wrote s k rest) (and_then (known (Undefined Byte start_place) q τ) (λ b. note (Output b)))
-byte-does u s k n a rest t v τ None left meets keeps le hv e = does-stuck u (Wrote s k rest) t τ Byte Byte start_place (write-step u t n a rest v None left hv e) meets
-byte-does u s k n a rest t v τ (Some b) left meets keeps le hv e =
+byte-does : (u : CUnit) (p : Place) (s : State) (k n : ℕ) (a : Atom) (rest : List Statement) (t : State) (v : ℤ) (τ : source.State) (q : Option ℤ) → t.left ≡ statements.Write n a ∷ rest → Meets t τ → Keeps k s t → k ≤ n → atom_value t.locals a ≡ Some v → byte_of v ≡ q
+    → Does u t τ (Wrote s k rest) (and_then (known (Undefined Byte p) q τ) (λ b. note (Output b)))
+byte-does u p s k n a rest t v τ None left meets keeps le hv e = does-stuck u (Wrote s k rest) t τ Byte Byte p (write-step u t n a rest v None left hv e) meets
+byte-does u p s k n a rest t v τ (Some b) left meets keeps le hv e =
     let next = byte_written t n rest b in
     let set = keeps-assigned k n t (pos 0) rest le in
     does-comes u (Wrote s k rest) t next τ (source_written τ b) tt
@@ -103,34 +105,36 @@ byte-does u s k n a rest t v τ (Some b) left meets keeps le hv e =
 abbrev one_write : Expr → ℕ → ℕ → List Statement
 one_write e k l = (coded e).statements k l ++ (statements.Write (k + (coded e).size) ((coded e).atom k) ∷ [])
 
--- all of the expressions are valid
-abbrev pub AreValid : Named → List Expr → Type 0
-AreValid n es = AllByRecursion (λ e. valid n e ≡ true) es
+-- what all of the writes write is valid
+abbrev pub AreValid : Named → List Write → Type 0
+AreValid n ws = AllByRecursion (λ (w : Write). valid n w.value ≡ true) ws
 
 write-low : (n : Named) (e : Expr) → valid n e ≡ true → (k l : ℕ) → LabelsBelow (l + (coded e).labels) (one_write e k l)
 write-low n e v k l = all-append _ ((coded e).statements k l) _ ((correct n e v).low k l) (tt, tt)
 
-pub writes-low : (n : Named) (es : List Expr) → AreValid n es → (k l : ℕ) → LabelsBelow (l + writes_labels es) (writes_code es k l)
+pub writes-low : (n : Named) (es : List Write) → AreValid n es → (k l : ℕ) → LabelsBelow (l + writes_labels es) (writes_code es k l)
 writes-low n [] vs k l = tt
-writes-low n (e ∷ es) vs k l =
+writes-low n (w ∷ es) vs k l =
+    let e = w.value in
     let m = l + ((coded e).labels + writes_labels es) in
     let same : l + (coded e).labels + writes_labels es ≡ m = omega arith in
     all-append _ (one_write e k l) _ (labels-more (l + (coded e).labels) m (one_write e k l) (omega arith) (write-low n e vs.0 k l))
     (subst (λ x. LabelsBelow x (writes_code es (k + ((coded e).size + 1)) (l + (coded e).labels))) same (writes-low n es vs.1 (k + ((coded e).size + 1)) (l + (coded e).labels)))
 
-write-does : (n : Named) (e : Expr) → valid n e ≡ true → (u : CUnit) (fuel : ℕ) (ctx : Context) (pre : List Statement) (k l : ℕ) (rest : List Statement) (s : State) (σ : source.State) → At u n fuel ctx s σ
+write-does : (n : Named) (p : Place) (e : Expr) → valid n e ≡ true → (u : CUnit) (fuel : ℕ) (ctx : Context) (pre : List Statement) (k l : ℕ) (rest : List Statement) (s : State) (σ : source.State) → At u n fuel ctx s σ
     → body_of u s.function ≡ pre ++ ((coded e).statements k l ++ (statements.Write (k + (coded e).size) ((coded e).atom k) ∷ rest)) → LabelsBelow l pre
-    → s.left ≡ (coded e).statements k l ++ (statements.Write (k + (coded e).size) ((coded e).atom k) ∷ rest) → n.parameters ≤ k → k + (coded e).size ≤ length s.locals → Does u s σ (Wrote s k rest) (write_meaning e ctx σ)
-write-does n e valid_is u fuel ctx pre k l rest s σ at whole before left room fits =
+    → s.left ≡ (coded e).statements k l ++ (statements.Write (k + (coded e).size) ((coded e).atom k) ∷ rest) → n.parameters ≤ k → k + (coded e).size ≤ length s.locals → Does u s σ (Wrote s k rest) (write_meaning (record { place = p; value = e }) ctx σ)
+write-does n p e valid_is u fuel ctx pre k l rest s σ at whole before left room fits =
     let W : Statement = statements.Write (k + (coded e).size) ((coded e).atom k) in
-    does-bind u (Valued s k ((coded e).atom k) (W ∷ rest)) (Wrote s k rest) s σ (eval e ctx σ) (λ x τ. and_then (known (Undefined Byte start_place) (byte_of x) τ) (λ b. note (Output b)))
+    does-bind u (Valued s k ((coded e).atom k) (W ∷ rest)) (Wrote s k rest) s σ (eval e ctx σ) (λ x τ. and_then (known (Undefined Byte p) (byte_of x) τ) (λ b. note (Output b)))
     ((correct n e valid_is).runs u fuel ctx pre k l (W ∷ rest) s σ at whole before left room fits)
-    (λ x τ t leads g. byte-does u s k (k + (coded e).size) ((coded e).atom k) rest t x τ (byte_of x) g.left g.meets g.keeps (omega arith) g.value refl)
+    (λ x τ t leads g. byte-does u p s k (k + (coded e).size) ((coded e).atom k) rest t x τ (byte_of x) g.left g.meets g.keeps (omega arith) g.value refl)
 
-writes-do : (n : Named) (es : List Expr) → AreValid n es → (u : CUnit) (fuel : ℕ) (ctx : Context) (pre : List Statement) (k l : ℕ) (rest : List Statement) (s : State) (σ : source.State) → At u n fuel ctx s σ
+writes-do : (n : Named) (es : List Write) → AreValid n es → (u : CUnit) (fuel : ℕ) (ctx : Context) (pre : List Statement) (k l : ℕ) (rest : List Statement) (s : State) (σ : source.State) → At u n fuel ctx s σ
     → body_of u s.function ≡ pre ++ (writes_code es k l ++ rest) → LabelsBelow l pre → s.left ≡ writes_code es k l ++ rest → n.parameters ≤ k → k + writes_size es ≤ length s.locals → Does u s σ (Wrote s k rest) (write_all es ctx σ)
 writes-do n [] vs u fuel ctx pre k l rest s σ at whole before left room fits = does-done u (Wrote s k rest) s σ tt (record { meets = at.meets; keeps = keeps-self k s; left = left })
-writes-do n (e ∷ es) vs u fuel ctx pre k l rest s σ at whole before left room fits =
+writes-do n (w ∷ es) vs u fuel ctx pre k l rest s σ at whole before left room fits =
+    let e = w.value in
     let k' = k + ((coded e).size + 1) in
     let l' = l + (coded e).labels in
     let first = one_write e k l in
@@ -140,8 +144,8 @@ writes-do n (e ∷ es) vs u fuel ctx pre k l rest s σ at whole before left room
     let near : (first ++ writes_code es k' l') ++ rest ≡ E ++ (W ∷ mid) = append_assoc first (writes_code es k' l') rest ∙ append_assoc E (W ∷ []) mid in
     let far : body_of u s.function ≡ (pre ++ first) ++ mid = whole ∙ ap (λ y. pre ++ y) (append_assoc first (writes_code es k' l') rest) ∙ sym (append_assoc pre first mid) in
     let low = all-append _ pre first (labels-more l l' pre (omega arith) before) (write-low n e vs.0 k l) in
-    does-bind u (Wrote s k mid) (Wrote s k rest) s σ (write_meaning e ctx σ) (λ d. write_all es ctx)
-    (write-does n e vs.0 u fuel ctx pre k l mid s σ at (whole ∙ ap (λ y. pre ++ y) near) before (left ∙ near) room (omega arith))
+    does-bind u (Wrote s k mid) (Wrote s k rest) s σ (write_meaning w ctx σ) (λ d. write_all es ctx)
+    (write-does n w.place e vs.0 u fuel ctx pre k l mid s σ at (whole ∙ ap (λ y. pre ++ y) near) before (left ∙ near) room (omega arith))
     (λ d τ t leads g.
     let size = g.keeps.size in
     let here = at-after u n fuel ctx s t σ τ k room at leads g.meets g.keeps in

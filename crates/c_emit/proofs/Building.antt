@@ -6,7 +6,8 @@ use Rattle.c_ast.specs.declared.unit.Atom.TheVariants as atoms
 use Rattle.c_ast.specs.declared.unit.BinaryOperator.{BinaryOperator}
 use Rattle.c_ast.specs.declared.unit.Statement.{Statement}
 use Rattle.c_ast.specs.declared.unit.Statement.TheVariants as statements
-use Rattle.ps_meaning.specs.declared.program.Expr.{Expr}
+use Rattle.ps_plain.specs.declared.program.Expr.{Expr}
+use Rattle.ps_plain.specs.declared.program.Write.{Write}
 use Rattle.c_emit.specs.Code.{Coded, if_code, coded, operands_code, operands_places, writes_code}
 use Rattle.c_emit.proofs.Patches.{conditional}
 
@@ -36,20 +37,20 @@ module _ (o : BinaryOperator) (a b c d : Coded) (s0 s1 s2 s3 s4 s5 s6 s7 s8 : Li
       let l7_is : l7 ≡ l + a.labels + b.labels + d.labels + 1 + c.labels = omega arith in
       rw (ax, ay, ad, af, v1, n1, target_is, k2_is, k4_is, k6_is, l4_is, l5_is, l6_is, l7_is) at h
 
--- what stands first of the expressions that are left
-pub next-expr : (es : List Expr) (i : ℕ) (e : Expr) → i < length es → e ≡ get_or es i e → drop i es ≡ e ∷ drop (i + 1) es
-next-expr es i e lt is = drop-cons es i e lt ∙ ap (λ y. y ∷ drop (suc i) es) (sym is) ∙ ap (λ (n : ℕ). e ∷ drop n es) (sym (add-one i))
+-- what stands first of the members that are left
+pub next-member : {A : Type 0} (es : List A) (i : ℕ) (e : A) → i < length es → e ≡ get_or es i e → drop i es ≡ e ∷ drop (i + 1) es
+next-member es i e lt is = drop-cons es i e lt ∙ ap (λ y. y ∷ drop (suc i) es) (sym is) ∙ ap (λ (n : ℕ). e ∷ drop n es) (sym (add-one i))
 
 -- the code of the writes that are left, once one more is built
-pub write-more : (es rest : List Expr) (e : Expr) → es ≡ e ∷ rest → (v l v' l' : ℕ) (st st' total : List Statement)
-    → st ++ writes_code es v l ≡ total → st' ≡ st ++ ((coded e).statements v l ++ (statements.Write (v + (coded e).size) ((coded e).atom v) ∷ []))
-    → v' ≡ v + ((coded e).size + 1) → l' ≡ l + (coded e).labels → st' ++ writes_code rest v' l' ≡ total
-write-more es rest e is v l v' l' st st' total h new ev el =
-    let part : List Statement = (coded e).statements v l ++ (statements.Write (v + (coded e).size) ((coded e).atom v) ∷ []) in
+pub write-more : (ws rest : List Write) (w : Write) → ws ≡ w ∷ rest → (v l v' l' : ℕ) (st st' total : List Statement)
+    → st ++ writes_code ws v l ≡ total → st' ≡ st ++ ((coded w.value).statements v l ++ (statements.Write (v + (coded w.value).size) ((coded w.value).atom v) ∷ []))
+    → v' ≡ v + ((coded w.value).size + 1) → l' ≡ l + (coded w.value).labels → st' ++ writes_code rest v' l' ≡ total
+write-more ws rest w is v l v' l' st st' total h new ev el =
+    let part : List Statement = (coded w.value).statements v l ++ (statements.Write (v + (coded w.value).size) ((coded w.value).atom v) ∷ []) in
     ap (λ s. s ++ writes_code rest v' l') new
     ∙ append_assoc st part (writes_code rest v' l')
     ∙ ap (λ n. st ++ (part ++ writes_code rest n l')) ev
-    ∙ ap (λ n. st ++ (part ++ writes_code rest (v + ((coded e).size + 1)) n)) el
+    ∙ ap (λ n. st ++ (part ++ writes_code rest (v + ((coded w.value).size + 1)) n)) el
     ∙ ap (λ x. st ++ writes_code x v l) (sym is)
     ∙ h
 

@@ -6,15 +6,16 @@ use Rattle.std.specs.List.{AllByRecursion}
 use Rattle.std.proofs.lemmas.Option.{slice_get-map}
 use Rattle.std.proofs.lemmas.List.{length-set, length-replicate, get_or-set_same, get_or-set_other}
 use Rattle.std.proofs.Math.Nat.{le-max_left, le-max_right}
+use Rattle.ps_base.specs.declared.faults.Place.{Place}
 use Rattle.ps_base.specs.declared.faults.Op.TheVariants.{Unset}
 use Rattle.byte_store.specs.Outcome.{Running, Wrong}
 use Rattle.byte_store.specs.Machine.{Goes as Moves}
-use Rattle.ps_meaning.specs.declared.program.Procedure.{Procedure}
-use Rattle.ps_meaning.specs.declared.program.Program.{Program}
-use Rattle.ps_meaning.specs.Run as source
-use Rattle.ps_meaning.specs.Run.{Step, Goes, Stops, and_then, known, take_one, at_depth}
-use Rattle.ps_meaning.specs.Meaning.{Enter, Context, body, taking, entering, enters, start_place}
-use Rattle.ps_meaning.specs.Valid.{arities_of, named_in, IsProcedure, IsValid}
+use Rattle.ps_plain.specs.declared.program.Procedure.{Procedure}
+use Rattle.ps_plain.specs.declared.program.Program.{Program}
+use Rattle.ps_plain.specs.Run as source
+use Rattle.ps_plain.specs.Run.{Step, Goes, Stops, and_then, known, take_one, at_depth}
+use Rattle.ps_plain.specs.Meaning.{Enter, Context, body, taking, entering, enters}
+use Rattle.ps_plain.specs.Valid.{arities_of, named_in, IsProcedure, IsValid}
 use Rattle.c_ast.specs.declared.unit.Atom.TheVariants as atoms
 use Rattle.c_ast.specs.declared.unit.Statement.{Statement}
 use Rattle.c_ast.specs.declared.unit.Statement.TheVariants as statements
@@ -69,7 +70,7 @@ arguments-given (w ∷ vs) others (suc i) v e = arguments-given vs others i v e
 
 -- ---- a call
 
-module _ (p : Program) (is_valid : IsValid p) (fuel : ℕ) (go : Enter) (f : ℕ) (vs : List ℤ) (s : State) (σ : source.State) (k target : ℕ) (ks : List ℕ) (rest : List Statement)
+module _ (p : Program) (is_valid : IsValid p) (fuel : ℕ) (go : Enter) (place : Place) (f : ℕ) (vs : List ℤ) (s : State) (σ : source.State) (k target : ℕ) (ks : List ℕ) (rest : List Statement)
     (q : Procedure) (is : slice_get p.procedures f ≡ Some q) (count : q.parameters ≡ length vs)
     (left : s.left ≡ statements.Call target f ks ∷ rest) (values : values_of s.locals ks ≡ Some vs) (lt : target < length s.locals) (le : k ≤ target) (meets : Meets s σ) where
   -- the frame that is left, and the state behind the step of the call
@@ -166,21 +167,21 @@ module _ (p : Program) (is_valid : IsValid p) (fuel : ℕ) (go : Enter) (f : ℕ
   by-calls zero e ok = does-running (unit_of p) T s σ e meets
   by-calls (suc c) e ok = does-after (unit_of p) T s called σ (entered c) (body q inner (entered c)) (leads-in c e) (through c (ok c e).0 (ok c e).1)
 
-  pub call-does : ((c : ℕ) → σ.calls ≡ suc c → EnterOk (unit_of p) (arities_of p) fuel go × (c ≤ fuel)) → Does (unit_of p) s σ T (entering p go (length s.callers + 1) f vs σ)
+  pub call-does : ((c : ℕ) → σ.calls ≡ suc c → EnterOk (unit_of p) (arities_of p) fuel go × (c ≤ fuel)) → Does (unit_of p) s σ T (entering p go place (length s.callers + 1) f vs σ)
   call-does ok =
-      subst (λ o. Does (unit_of p) s σ T (and_then (known (Wrong start_place) o σ) (λ x τ. and_then (take_one τ.calls τ) (λ d υ. and_then (at_depth (length s.callers + 1) υ) (λ d. body x inner)))))
+      subst (λ o. Does (unit_of p) s σ T (and_then (known (Wrong place) o σ) (λ x τ. and_then (take_one τ.calls τ) (λ d υ. and_then (at_depth (length s.callers + 1) υ) (λ d. body x inner)))))
       (sym (taken p f (length vs) q is count)) (by-calls σ.calls refl ok)
 
 -- to enter a procedure of the source does what the machine does, as long as the recursion of the definition has turns for
 -- all calls that are left
 pub enters-ok : (p : Program) → IsValid p → (n : ℕ) → EnterOk (unit_of p) (arities_of p) n (enters p n)
 enters-ok p is_valid zero = record {
-  by = λ f vs s σ k target ks rest enough arity left values lt le meets.
+  by = λ place f vs s σ k target ks rest enough arity left values lt le meets.
       let q = procedure-at p f (length vs) arity in
-      call-does p is_valid 0 (λ d g ws. source.stop Running) f vs s σ k target ks rest q.0 q.1 q.2 left values lt le meets (λ c e. absurd (omega arith));
+      call-does p is_valid 0 (λ at d g ws. source.stop Running) place f vs s σ k target ks rest q.0 q.1 q.2 left values lt le meets (λ c e. absurd (omega arith));
 }
 enters-ok p is_valid (suc n) = record {
-  by = λ f vs s σ k target ks rest enough arity left values lt le meets.
+  by = λ place f vs s σ k target ks rest enough arity left values lt le meets.
       let q = procedure-at p f (length vs) arity in
-      call-does p is_valid n (enters p n) f vs s σ k target ks rest q.0 q.1 q.2 left values lt le meets (λ c e. (enters-ok p is_valid n, omega arith));
+      call-does p is_valid n (enters p n) place f vs s σ k target ks rest q.0 q.1 q.2 left values lt le meets (λ c e. (enters-ok p is_valid n, omega arith));
 }

@@ -2,15 +2,16 @@
 use Rattle.std.proofs.Common.{◌≡◌, ℕ, ℤ, pos, ◌+◌, ◌<◌, ◌≤◌, List, [], ◌∷◌, ◌++◌, length, Some, None, refl, sym, ap, ◌∙◌, subst, arith, get_or, append_assoc, Bool, true, false}
 use Rattle.std.specs.Prelude.{if◌then◌else◌}
 use Rattle.std.proofs.lemmas.List.{get_or-set_same}
+use Rattle.ps_base.specs.declared.faults.Place.{Place}
 use Rattle.ps_base.specs.Numbers.{fit}
 use Rattle.byte_store.specs.Machine.{Goes as Moves}
-use Rattle.ps_meaning.specs.declared.program.Expr.TheOpen.{Expr-F}
-use Rattle.ps_meaning.specs.declared.program.Comparison.{Comparison}
-use Rattle.ps_meaning.specs.declared.program.Comparison.TheVariants as comparisons
-use Rattle.ps_meaning.specs.Run as source
-use Rattle.ps_meaning.specs.Run.{Step, and_then}
-use Rattle.ps_meaning.specs.Meaning.{Context, Meaning, holds, meaning_of}
-use Rattle.ps_meaning.specs.Valid.{Named}
+use Rattle.ps_plain.specs.declared.program.Expr.TheOpen.{Expr-F}
+use Rattle.ps_plain.specs.declared.program.Comparison.{Comparison}
+use Rattle.ps_plain.specs.declared.program.Comparison.TheVariants as comparisons
+use Rattle.ps_plain.specs.Run as source
+use Rattle.ps_plain.specs.Run.{Step, and_then}
+use Rattle.ps_plain.specs.Meaning.{Context, Meaning, holds, meaning_of}
+use Rattle.ps_plain.specs.Valid.{Named}
 use Rattle.c_ast.specs.declared.unit.Atom.TheVariants as atoms
 use Rattle.c_ast.specs.declared.unit.Statement.{Statement}
 use Rattle.c_ast.specs.declared.unit.Statement.TheVariants as statements
@@ -257,9 +258,9 @@ module _ (n : Named) (q : Comparison) (m1 m2 m3 m4 : Meaning) (a b c d : Coded) 
       choose v w τ t here keeps tleft hv hw true e = by-test v w τ t here keeps tleft hv hw true e
       choose v w τ t here keeps tleft hv hw false e = by-test v w τ t here keeps tleft hv hw false e
 
-pub correct-if : (n : Named) (q : Comparison) (m1 m2 m3 m4 : Meaning) (a b c d : Coded) → Correct n m1 a → Correct n m2 b → Correct n m3 c → Correct n m4 d → Correct n (meaning_of (Expr-F.If q m1 m2 m3 m4)) (coded_node (Expr-F.If q a b c d))
-correct-if n q m1 m2 m3 m4 a b c d h1 h2 h3 h4 = record {
-  runs = λ u fuel ctx pre k l rest s σ at whole before left room fits. if-does n q m1 m2 m3 m4 a b c d h1 h2 h3 h4 u fuel ctx pre k l rest s σ at whole before left room fits;
+pub correct-if : (n : Named) (p at : Place) (q : Comparison) (m1 m2 m3 m4 : Meaning) (a b c d : Coded) → Correct n m1 a → Correct n m2 b → Correct n m3 c → Correct n m4 d → Correct n (meaning_of (Expr-F.If p at q m1 m2 m3 m4)) (coded_node (Expr-F.If p at q a b c d))
+correct-if n p at q m1 m2 m3 m4 a b c d h1 h2 h3 h4 = record {
+  runs = λ u fuel ctx pre k l rest s σ here whole before left room fits. if-does n q m1 m2 m3 m4 a b c d h1 h2 h3 h4 u fuel ctx pre k l rest s σ here whole before left room fits;
   below = λ k room. omega arith;
   low = λ k l.
       let m = l + (a.labels + b.labels + d.labels + 1 + c.labels + 1) in

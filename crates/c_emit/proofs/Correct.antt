@@ -4,18 +4,19 @@ use Rattle.std.specs.Prelude.{slice_get, slice_set}
 use Rattle.std.proofs.lemmas.List.{length-set, get_or-set_same}
 use Rattle.byte_store.specs.declared.event.Event.{Event}
 use Rattle.byte_store.specs.declared.event.Event.TheVariants.{Input}
+use Rattle.ps_base.specs.declared.faults.Place.{Place}
 use Rattle.ps_base.specs.declared.faults.Op.TheVariants.{Overflow, Unset}
 use Rattle.ps_base.specs.Numbers.{fit}
 use Rattle.byte_store.specs.Outcome.{Undefined, Wrong}
 use Rattle.byte_store.specs.Machine.{Goes as Moves}
 use Rattle.byte_store.specs.Worlds.{Surroundings, next_byte, rest_of}
-use Rattle.ps_meaning.specs.declared.program.Expr.TheOpen.{Expr-F}
-use Rattle.ps_meaning.specs.declared.program.Operator.{Operator}
-use Rattle.ps_meaning.specs.declared.program.Operator.TheVariants as source_operators
-use Rattle.ps_meaning.specs.Run as source
-use Rattle.ps_meaning.specs.Run.{Step, Goes, Stops, and_then, known, read_byte}
-use Rattle.ps_meaning.specs.Meaning.{Enter, Context, Meaning, result_of as value_of, meaning_of, start_place}
-use Rattle.ps_meaning.specs.Valid.{Named}
+use Rattle.ps_plain.specs.declared.program.Expr.TheOpen.{Expr-F}
+use Rattle.ps_plain.specs.declared.program.Operator.{Operator}
+use Rattle.ps_plain.specs.declared.program.Operator.TheVariants as source_operators
+use Rattle.ps_plain.specs.Run as source
+use Rattle.ps_plain.specs.Run.{Step, Goes, Stops, and_then, known, read_byte}
+use Rattle.ps_plain.specs.Meaning.{Enter, Context, Meaning, result_of as value_of, meaning_of}
+use Rattle.ps_plain.specs.Valid.{Named}
 use Rattle.c_ast.specs.declared.unit.Atom.{Atom}
 use Rattle.c_ast.specs.declared.unit.Atom.TheVariants as atoms
 use Rattle.c_ast.specs.declared.unit.BinaryOperator.{BinaryOperator}
@@ -37,9 +38,9 @@ pub record Valued (s : State) (k : ℕ) (x : Atom) (rest : List Statement) (v : 
 -- From a call whose operands are there, the machine does what the source does by entering the procedure, as long as no more
 -- calls are left than `fuel`. The procedures have these numbers of parameters.
 pub record EnterOk (u : CUnit) (arities : List ℕ) (fuel : ℕ) (enter : Enter) : Type 0 where
-  pub by : (f : ℕ) (vs : List ℤ) (s : State) (σ : source.State) (k target : ℕ) (ks : List ℕ) (rest : List Statement) → σ.calls ≤ fuel → slice_get arities f ≡ Some (length vs)
+  pub by : (place : Place) (f : ℕ) (vs : List ℤ) (s : State) (σ : source.State) (k target : ℕ) (ks : List ℕ) (rest : List Statement) → σ.calls ≤ fuel → slice_get arities f ≡ Some (length vs)
       → s.left ≡ statements.Call target f ks ∷ rest → values_of s.locals ks ≡ Some vs → target < length s.locals → k ≤ target → Meets s σ
-      → Does u s σ (Valued s k (atoms.Variable target) rest) (enter (length s.callers + 1) f vs σ)
+      → Does u s σ (Valued s k (atoms.Variable target) rest) (enter place (length s.callers + 1) f vs σ)
 
 -- the machine is in a frame for this context: its first variables are the arguments
 pub record At (u : CUnit) (n : Named) (fuel : ℕ) (c : Context) (s : State) (σ : source.State) : Type 0 where
@@ -74,8 +75,8 @@ pub record Correct (n : Named) (m : Meaning) (c : Coded) : Type 0 where
   pub below : (k : ℕ) → n.parameters ≤ k → Below (k + c.size) (c.atom k)
   pub low : (k l : ℕ) → LabelsBelow (l + c.labels) (c.statements k l)
 
-pub correct-integer : (n : Named) (i : ℤ) → Correct n (meaning_of (Expr-F.Integer i)) (coded_node (Expr-F.Integer i))
-correct-integer n i = record {
+pub correct-integer : (n : Named) (p : Place) (i : ℤ) → Correct n (meaning_of (Expr-F.Integer p i)) (coded_node (Expr-F.Integer p i))
+correct-integer n p i = record {
   runs = λ u fuel ctx pre k l rest s σ at whole before left room fits. does-done u (Valued s k (atoms.Integer i) rest) s σ i (record { meets = at.meets; keeps = keeps-self k s; left = left; value = refl });
   below = λ k room. tt;
   low = λ k l. tt;
@@ -87,12 +88,12 @@ some-at [] i lt = absurd (omega arith)
 some-at (x ∷ xs) zero lt = (x, refl)
 some-at (x ∷ xs) (suc i) lt = some-at xs i (omega arith)
 
-pub correct-parameter : (n : Named) (i : ℕ) → i < n.parameters → Correct n (meaning_of (Expr-F.Parameter i)) (coded_node (Expr-F.Parameter i))
-correct-parameter n i lt = record {
+pub correct-parameter : (n : Named) (p : Place) (i : ℕ) → i < n.parameters → Correct n (meaning_of (Expr-F.Parameter p i)) (coded_node (Expr-F.Parameter p i))
+correct-parameter n p i lt = record {
   runs = λ u fuel ctx pre k l rest s σ at whole before left room fits.
       let v = some-at ctx.arguments i (omega (arith, at.count)) in
       let T = Valued s k (atoms.Variable i) rest in
-      subst (λ o. Does u s σ T (known (Wrong start_place) o σ)) (sym v.1) (does-done u T s σ v.0 (record { meets = at.meets; keeps = keeps-self k s; left = left; value = at.given i v.0 v.1 }));
+      subst (λ o. Does u s σ T (known (Wrong p) o σ)) (sym v.1) (does-done u T s σ v.0 (record { meets = at.meets; keeps = keeps-self k s; left = left; value = at.given i v.0 v.1 }));
   below = λ k room. omega arith;
   low = λ k l. tt;
 }
@@ -171,17 +172,17 @@ operator-result source_operators.Subtract x y = refl
 operator-result source_operators.Multiply x y = refl
 
 -- a value that has 64 bits or not, which an operation gives
-operation-does : (u : CUnit) (s : State) (k n : ℕ) (a : Atom) (o : BinaryOperator) (b : Atom) (rest : List Statement) (t : State) (v w z : ℤ) (τ : source.State) (q : Option ℤ) → t.left ≡ statements.Operation n a o b ∷ rest → Meets t τ → Keeps k s t → n < length t.locals → k ≤ n
-    → atom_value t.locals a ≡ Some v → atom_value t.locals b ≡ Some w → result_of o v w ≡ z → fit z ≡ q → Does u t τ (Valued s k (atoms.Variable n) rest) (known (Undefined Overflow start_place) q τ)
-operation-does u s k n a o b rest t v w z τ None left meets keeps lt le hv hw is e =
-    does-stuck u (Valued s k (atoms.Variable n) rest) t τ Overflow Overflow start_place (operation-step u t n a o b rest v w None left hv hw (ap fit is ∙ e)) meets
-operation-does u s k n a o b rest t v w z τ (Some i) left meets keeps lt le hv hw is e =
+operation-does : (u : CUnit) (p : Place) (s : State) (k n : ℕ) (a : Atom) (o : BinaryOperator) (b : Atom) (rest : List Statement) (t : State) (v w z : ℤ) (τ : source.State) (q : Option ℤ) → t.left ≡ statements.Operation n a o b ∷ rest → Meets t τ → Keeps k s t → n < length t.locals → k ≤ n
+    → atom_value t.locals a ≡ Some v → atom_value t.locals b ≡ Some w → result_of o v w ≡ z → fit z ≡ q → Does u t τ (Valued s k (atoms.Variable n) rest) (known (Undefined Overflow p) q τ)
+operation-does u p s k n a o b rest t v w z τ None left meets keeps lt le hv hw is e =
+    does-stuck u (Valued s k (atoms.Variable n) rest) t τ Overflow Overflow p (operation-step u t n a o b rest v w None left hv hw (ap fit is ∙ e)) meets
+operation-does u p s k n a o b rest t v w z τ (Some i) left meets keeps lt le hv hw is e =
     does-comes u (Valued s k (atoms.Variable n) rest) t (assigned t n i rest) τ τ i
     (leads-silent u t (assigned t n i rest) τ (operation-step u t n a o b rest v w (Some i) left hv hw (ap fit is ∙ e)) meets.low)
     (valued-assigned s t k n i rest τ keeps meets le lt)
 
-pub correct-operation : (n : Named) (o : Operator) (m1 m2 : Meaning) (a b : Coded) → Correct n m1 a → Correct n m2 b → Correct n (meaning_of (Expr-F.Operation o m1 m2)) (coded_node (Expr-F.Operation o a b))
-correct-operation n o m1 m2 a b h1 h2 = record {
+pub correct-operation : (n : Named) (p : Place) (o : Operator) (m1 m2 : Meaning) (a b : Coded) → Correct n m1 a → Correct n m2 b → Correct n (meaning_of (Expr-F.Operation p o m1 m2)) (coded_node (Expr-F.Operation p o a b))
+correct-operation n p o m1 m2 a b h1 h2 = record {
   runs = λ u fuel ctx pre k l rest s σ at whole before left room fits.
       let target = k + a.size + b.size in
       let op : Statement = statements.Operation target (a.atom k) (operator_of o) (b.atom (k + a.size)) in
@@ -189,10 +190,10 @@ correct-operation n o m1 m2 a b h1 h2 = record {
       let B = b.statements (k + a.size) (l + a.labels) in
       let flat : (A ++ (B ++ (op ∷ []))) ++ rest ≡ A ++ (B ++ (op ∷ rest)) = append_assoc A (B ++ (op ∷ [])) rest ∙ ap (λ y. A ++ y) (append_assoc B (op ∷ []) rest) in
       two-operands n m1 m2 a b h1 h2 u fuel ctx pre k l (op ∷ rest) s σ at (whole ∙ ap (λ y. pre ++ y) flat) before (left ∙ flat) room (omega arith)
-      (Valued s k (atoms.Variable target) rest) (λ v w. known (Undefined Overflow start_place) (fit (value_of o v w)))
+      (Valued s k (atoms.Variable target) rest) (λ v w. known (Undefined Overflow p) (fit (value_of o v w)))
       (λ v w τ t here keeps tleft hv hw.
       let size = keeps.size in
-      operation-does u s k target (a.atom k) (operator_of o) (b.atom (k + a.size)) rest t v w (value_of o v w) τ (fit (value_of o v w)) tleft here.meets keeps (omega arith) (omega arith) hv hw (operator-result o v w) refl);
+      operation-does u p s k target (a.atom k) (operator_of o) (b.atom (k + a.size)) rest t v w (value_of o v w) τ (fit (value_of o v w)) tleft here.meets keeps (omega arith) (omega arith) hv hw (operator-result o v w) refl);
   below = λ k room. omega arith;
   low = λ k l.
       let first = labels-more (l + a.labels) (l + (a.labels + b.labels)) (a.statements k l) (omega arith) (h1.low k l) in
@@ -222,8 +223,8 @@ meets-read s σ k rest h = record {
   low = h.low;
 }
 
-pub correct-read : (n : Named) → Correct n (meaning_of Expr-F.ReadByte) (coded_node Expr-F.ReadByte)
-correct-read n = record {
+pub correct-read : (n : Named) (p : Place) → Correct n (meaning_of (Expr-F.ReadByte p)) (coded_node (Expr-F.ReadByte p))
+correct-read n p = record {
   runs = λ u fuel ctx pre k l rest s σ at whole before left room fits.
       let T = Valued s k (atoms.Variable k) rest in
       does-comes u T s (byte_read s k rest) σ (source_read σ) (next_byte σ.world.input)

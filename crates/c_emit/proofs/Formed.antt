@@ -4,18 +4,20 @@ use Rattle.std.specs.Prelude.{ℤ, pos, negsuc, Bool, ◌&&◌, Option, Some, No
 use Rattle.std.specs.List.{AllByRecursion}
 use Rattle.std.proofs.lemmas.Bool.{and_parts, ltb-true, eqb-true}
 use Rattle.std.proofs.lemmas.List.{length-map}
+use Rattle.ps_base.specs.declared.faults.Place.{Place}
 use Rattle.ps_base.specs.Numbers.{IsWord, is_word, sum_of}
-use Rattle.ps_meaning.specs.declared.program.Expr.{Expr}
-use Rattle.ps_meaning.specs.declared.program.Expr.TheOpen.{Expr-F}
-use Rattle.ps_meaning.specs.declared.program.Expr.TheVariants as exprs
-use Rattle.ps_meaning.specs.declared.program.Operator.{Operator}
-use Rattle.ps_meaning.specs.declared.program.Comparison.{Comparison}
-use Rattle.ps_meaning.specs.declared.program.Procedure.{Procedure}
-use Rattle.ps_meaning.specs.declared.program.Program.{Program}
-use Rattle.ps_meaning.specs.Forms.{has_arity}
-use Rattle.ps_meaning.specs.Size.{procedure_size, program_size}
-use Rattle.ps_meaning.specs.Valid.{Named, all_true, valid_node, valid, named_in, IsProcedure, IsValid}
-use Rattle.ps_meaning.proofs.Trees.{induction, fold-integer, fold-parameter, fold-operation, fold-if, fold-call, fold-read}
+use Rattle.ps_plain.specs.declared.program.Expr.{Expr}
+use Rattle.ps_plain.specs.declared.program.Expr.TheOpen.{Expr-F}
+use Rattle.ps_plain.specs.declared.program.Expr.TheVariants as exprs
+use Rattle.ps_plain.specs.declared.program.Operator.{Operator}
+use Rattle.ps_plain.specs.declared.program.Comparison.{Comparison}
+use Rattle.ps_plain.specs.declared.program.Write.{Write}
+use Rattle.ps_plain.specs.declared.program.Procedure.{Procedure}
+use Rattle.ps_plain.specs.declared.program.Program.{Program}
+use Rattle.ps_plain.specs.Forms.{has_arity}
+use Rattle.ps_plain.specs.Size.{procedure_size, program_size}
+use Rattle.ps_plain.specs.Valid.{Named, all_true, valid_node, valid, named_in, IsProcedure, IsValid}
+use Rattle.ps_plain.proofs.Trees.{induction, fold-integer, fold-parameter, fold-operation, fold-if, fold-call, fold-read}
 use Rattle.c_ast.specs.declared.unit.Atom.{Atom}
 use Rattle.c_ast.specs.declared.unit.BinaryOperator.{BinaryOperator}
 use Rattle.c_ast.specs.declared.unit.Statement.{Statement}
@@ -90,8 +92,8 @@ module _ (w : Named) (a b : Coded) (ha : Formed w a) (hb : Formed w b) (o : Bina
       numbered-append l (l + a.labels) (l + a.labels + b.labels) (a.statements k l) _ (ha.numbered k l)
       (numbered-append (l + a.labels) (l + a.labels + b.labels) (l + a.labels + b.labels) (b.statements (k + a.size) (l + a.labels)) _ (hb.numbered (k + a.size) (l + a.labels)) (unlabelled (l + a.labels + b.labels)))
 
-formed-operation : (w : Named) (o : Operator) (a b : Coded) → Formed w a → Formed w b → Formed w (coded_node (Expr-F.Operation o a b))
-formed-operation w o a b ha hb = record {
+formed-operation : (w : Named) (p : Place) (o : Operator) (a b : Coded) → Formed w a → Formed w b → Formed w (coded_node (Expr-F.Operation p o a b))
+formed-operation w p o a b ha hb = record {
   declared = operation-declared w a b ha hb (operator_of o);
   atom = λ k m lp le. omega arith;
   numbered = λ k l. (let same : l + a.labels + b.labels ≡ l + (a.labels + b.labels) = omega arith in subst (λ n. Numbered l n (operation_code (operator_of o) a b k l)) same (operation-numbered w a b ha hb (operator_of o) k l));
@@ -140,8 +142,8 @@ module _ (w : Named) (q : Comparison) (a b c d : Coded) (ha : Formed w a) (hb : 
       (numbered-append (between + 1) end (end + 1) C last (branch-numbered w c hc (target k + 1 + d.size) (between + 1) (target k))
       (labelled end (end + 1) [] (unlabelled (end + 1))))))
 
-  formed-if : Formed w (coded_node (Expr-F.If q a b c d))
-  formed-if = record {
+  formed-if : (p at : Place) → Formed w (coded_node (Expr-F.If p at q a b c d))
+  formed-if p at = record {
     declared = if-declared;
     atom = λ k m lp le. omega arith;
     numbered = λ k l. (let same : inner l + d.labels + 1 + c.labels + 1 ≡ l + (a.labels + b.labels + d.labels + 1 + c.labels + 1) = omega arith in subst (λ n. Numbered l n (if_code (comparison_of q) a b c d k l)) same (if-numbered k l));
@@ -178,8 +180,8 @@ length-places : (cs : List Coded) (k : ℕ) → length (operands_places cs k) �
 length-places [] k = refl
 length-places (c ∷ cs) k = ap suc (length-places cs (k + (c.size + 1)))
 
-formed-call : (w : Named) (f : ℕ) (cs : List Coded) → FormedOperands w cs → slice_get w.procedures f ≡ Some (length cs) → Formed w (coded_node (Expr-F.Call f cs))
-formed-call w f cs hs arity = record {
+formed-call : (w : Named) (p at : Place) (f : ℕ) (cs : List Coded) → FormedOperands w cs → slice_get w.procedures f ≡ Some (length cs) → Formed w (coded_node (Expr-F.Call p at f cs))
+formed-call w p at f cs hs arity = record {
   declared = λ k m l n lp le ll.
       all-append (IsStatement (declares w m n)) (operands_code cs k l) _ (hs.declared k m l n lp (omega arith) ll)
       ((omega arith, places-declared cs k m (omega arith), arity ∙ ap Some (sym (length-places cs k))), tt);
@@ -213,72 +215,74 @@ module _ (w : Named) where
       let parts = and_parts (valid w e) (all_true (map (valid w) es)) holds in
       formed-operand w (coded e) (map coded es) (hs.0 parts.0) (formed-operands es hs.1 parts.1)
 
-  valid-integer : (i : ℤ) → is_word i ≡ true → Formed w (coded_node (Expr-F.Integer i))
-  valid-integer i holds = record { declared = λ k m l n lp le ll. tt; atom = λ k m lp le. word i holds; numbered = λ k l. (tt, refl) }
+  valid-integer : (p : Place) (i : ℤ) → is_word i ≡ true → Formed w (coded_node (Expr-F.Integer p i))
+  valid-integer p i holds = record { declared = λ k m l n lp le ll. tt; atom = λ k m lp le. word i holds; numbered = λ k l. (tt, refl) }
 
-  valid-parameter : (i : ℕ) → valid_node w (Expr-F.Parameter i) ≡ true → Formed w (coded_node (Expr-F.Parameter i))
-  valid-parameter i holds =
+  valid-parameter : (p : Place) (i : ℕ) → valid_node w (Expr-F.Parameter p i) ≡ true → Formed w (coded_node (Expr-F.Parameter p i))
+  valid-parameter p i holds =
       let lt = ltb-true i w.parameters holds in
       record { declared = λ k m l n lp le ll. tt; atom = λ k m lp le. omega arith; numbered = λ k l. (tt, refl) }
 
-  valid-operation : (o : Operator) (a b : Expr) → FormedIfValid a → FormedIfValid b → valid_node w (Expr-F.Operation o (valid w a) (valid w b)) ≡ true → Formed w (coded_node (Expr-F.Operation o (coded a) (coded b)))
-  valid-operation o a b ha hb holds =
+  valid-operation : (p : Place) (o : Operator) (a b : Expr) → FormedIfValid a → FormedIfValid b → valid_node w (Expr-F.Operation p o (valid w a) (valid w b)) ≡ true → Formed w (coded_node (Expr-F.Operation p o (coded a) (coded b)))
+  valid-operation p o a b ha hb holds =
       let parts = and_parts (valid w a) (valid w b) holds in
-      formed-operation w o (coded a) (coded b) (ha parts.0) (hb parts.1)
+      formed-operation w p o (coded a) (coded b) (ha parts.0) (hb parts.1)
 
-  valid-if : (q : Comparison) (a b c d : Expr) → FormedIfValid a → FormedIfValid b → FormedIfValid c → FormedIfValid d
-      → valid_node w (Expr-F.If q (valid w a) (valid w b) (valid w c) (valid w d)) ≡ true → Formed w (coded_node (Expr-F.If q (coded a) (coded b) (coded c) (coded d)))
-  valid-if q a b c d ha hb hc hd holds =
+  valid-if : (p at : Place) (q : Comparison) (a b c d : Expr) → FormedIfValid a → FormedIfValid b → FormedIfValid c → FormedIfValid d
+      → valid_node w (Expr-F.If p at q (valid w a) (valid w b) (valid w c) (valid w d)) ≡ true → Formed w (coded_node (Expr-F.If p at q (coded a) (coded b) (coded c) (coded d)))
+  valid-if p at q a b c d ha hb hc hd holds =
       let last = and_parts (valid w a && valid w b && valid w c) (valid w d) holds in
       let third = and_parts (valid w a && valid w b) (valid w c) last.0 in
       let first = and_parts (valid w a) (valid w b) third.0 in
-      formed-if w q (coded a) (coded b) (coded c) (coded d) (ha first.0) (hb first.1) (hc third.1) (hd last.1)
+      formed-if w q (coded a) (coded b) (coded c) (coded d) (ha first.0) (hb first.1) (hc third.1) (hd last.1) p at
 
-  valid-call : (f : ℕ) (es : List Expr) → AllByRecursion FormedIfValid es → valid_node w (Expr-F.Call f (map (valid w) es)) ≡ true → Formed w (coded_node (Expr-F.Call f (map coded es)))
-  valid-call f es hs holds =
+  valid-call : (p at : Place) (f : ℕ) (es : List Expr) → AllByRecursion FormedIfValid es → valid_node w (Expr-F.Call p at f (map (valid w) es)) ≡ true → Formed w (coded_node (Expr-F.Call p at f (map coded es)))
+  valid-call p at f es hs holds =
       let parts = and_parts (has_arity (length (map (valid w) es)) (slice_get w.procedures f)) (all_true (map (valid w) es)) holds in
       let arity = arity-is (length (map (valid w) es)) (slice_get w.procedures f) parts.0 in
       let same : length (map (valid w) es) ≡ length (map coded es) = length-map es (valid w) ∙ sym (length-map es coded) in
-      formed-call w f (map coded es) (formed-operands es hs parts.1) (arity ∙ ap Some same)
+      formed-call w p at f (map coded es) (formed-operands es hs parts.1) (arity ∙ ap Some same)
 
-  valid-read : Formed w (coded_node Expr-F.ReadByte)
-  valid-read = record { declared = λ k m l n lp le ll. (omega arith, tt); atom = λ k m lp le. omega arith; numbered = λ k l. (tt, refl) }
+  valid-read : (p : Place) → Formed w (coded_node (Expr-F.ReadByte p))
+  valid-read p = record { declared = λ k m l n lp le ll. (omega arith, tt); atom = λ k m lp le. omega arith; numbered = λ k l. (tt, refl) }
 
   formed : (e : Expr) → FormedIfValid e
   formed = induction FormedIfValid
-      (λ i. by-clauses (exprs.Integer i) _ _ (fold-integer coded_node i) (fold-integer (valid_node w) i) (valid-integer i))
-      (λ i. by-clauses (exprs.Parameter i) _ _ (fold-parameter coded_node i) (fold-parameter (valid_node w) i) (valid-parameter i))
-      (λ o a b ha hb. by-clauses (exprs.Operation o a b) _ _ (fold-operation coded_node o a b) (fold-operation (valid_node w) o a b) (valid-operation o a b ha hb))
-      (λ q a b c d ha hb hc hd. by-clauses (exprs.If q a b c d) _ _ (fold-if coded_node q a b c d) (fold-if (valid_node w) q a b c d) (valid-if q a b c d ha hb hc hd))
-      (λ f es hs. by-clauses (exprs.Call f es) _ _ (fold-call coded_node f es) (fold-call (valid_node w) f es) (valid-call f es hs))
-      (by-clauses exprs.ReadByte _ _ (fold-read coded_node) (fold-read (valid_node w)) (λ holds. valid-read))
+      (λ p i. by-clauses (exprs.Integer p i) _ _ (fold-integer coded_node p i) (fold-integer (valid_node w) p i) (valid-integer p i))
+      (λ p i. by-clauses (exprs.Parameter p i) _ _ (fold-parameter coded_node p i) (fold-parameter (valid_node w) p i) (valid-parameter p i))
+      (λ p o a b ha hb. by-clauses (exprs.Operation p o a b) _ _ (fold-operation coded_node p o a b) (fold-operation (valid_node w) p o a b) (valid-operation p o a b ha hb))
+      (λ p at q a b c d ha hb hc hd. by-clauses (exprs.If p at q a b c d) _ _ (fold-if coded_node p at q a b c d) (fold-if (valid_node w) p at q a b c d) (valid-if p at q a b c d ha hb hc hd))
+      (λ p at f es hs. by-clauses (exprs.Call p at f es) _ _ (fold-call coded_node p at f es) (fold-call (valid_node w) p at f es) (valid-call p at f es hs))
+      (λ p. by-clauses (exprs.ReadByte p) _ _ (fold-read coded_node p) (fold-read (valid_node w) p) (λ holds. valid-read p))
 
 -- ---- the code of the writes
 
 -- the same of the writes together
-record FormedWrites (w : Named) (es : List Expr) : Type 0 where
+record FormedWrites (w : Named) (es : List Write) : Type 0 where
   declared : (k m l n : ℕ) → w.parameters ≤ k → k + writes_size es ≤ m → l + writes_labels es ≤ n → AllByRecursion (IsStatement (declares w m n)) (writes_code es k l)
   numbered : (k l : ℕ) → Numbered l (l + writes_labels es) (writes_code es k l)
 
-formed-more : (w : Named) (e : Expr) (es : List Expr) → Formed w (coded e) → FormedWrites w es → FormedWrites w (e ∷ es)
-formed-more w e es h hs = record {
+formed-more : (w : Named) (x : Write) (es : List Write) → Formed w (coded x.value) → FormedWrites w es → FormedWrites w (x ∷ es)
+formed-more w x es h hs = record {
   declared = λ k m l n lp le ll.
-      all-append (IsStatement (declares w m n)) ((coded e).statements k l ++ (statements.Write (k + (coded e).size) ((coded e).atom k) ∷ [])) _
-      (all-append (IsStatement (declares w m n)) ((coded e).statements k l) _ (h.declared k m l n lp (omega arith) (omega arith)) ((omega arith, h.atom k m lp (omega arith)), tt))
-      (hs.declared (k + ((coded e).size + 1)) m (l + (coded e).labels) n (omega arith) (omega arith) (omega arith));
+      let c = coded x.value in
+      all-append (IsStatement (declares w m n)) (c.statements k l ++ (statements.Write (k + c.size) (c.atom k) ∷ [])) _
+      (all-append (IsStatement (declares w m n)) (c.statements k l) _ (h.declared k m l n lp (omega arith) (omega arith)) ((omega arith, h.atom k m lp (omega arith)), tt))
+      (hs.declared (k + (c.size + 1)) m (l + c.labels) n (omega arith) (omega arith) (omega arith));
   numbered = λ k l.
-      let mid = l + (coded e).labels in
-      let end = l + ((coded e).labels + writes_labels es) in
+      let c = coded x.value in
+      let mid = l + c.labels in
+      let end = l + (c.labels + writes_labels es) in
       let same : mid + writes_labels es ≡ end = omega arith in
-      let others = writes_code es (k + ((coded e).size + 1)) mid in
-      numbered-append l mid end ((coded e).statements k l ++ (statements.Write (k + (coded e).size) ((coded e).atom k) ∷ [])) others
-      (numbered-append l mid mid ((coded e).statements k l) _ (h.numbered k l) (unlabelled mid))
-      (subst (λ n. Numbered mid n others) same (hs.numbered (k + ((coded e).size + 1)) mid));
+      let others = writes_code es (k + (c.size + 1)) mid in
+      numbered-append l mid end (c.statements k l ++ (statements.Write (k + c.size) (c.atom k) ∷ [])) others
+      (numbered-append l mid mid (c.statements k l) _ (h.numbered k l) (unlabelled mid))
+      (subst (λ n. Numbered mid n others) same (hs.numbered (k + (c.size + 1)) mid));
 }
 
-formed-writes : (w : Named) (es : List Expr) → AllByRecursion (λ e. valid w e ≡ true) es → FormedWrites w es
+formed-writes : (w : Named) (es : List Write) → AllByRecursion (λ (x : Write). valid w x.value ≡ true) es → FormedWrites w es
 formed-writes w [] hs = record { declared = λ k m l n lp le ll. tt; numbered = λ k l. (tt, refl) }
-formed-writes w (e ∷ es) hs = formed-more w e es (formed w e hs.0) (formed-writes w es hs.1)
+formed-writes w (x ∷ es) hs = formed-more w x es (formed w x.value hs.0) (formed-writes w es hs.1)
 
 -- ---- a function
 

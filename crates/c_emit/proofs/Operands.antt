@@ -3,13 +3,14 @@ use Rattle.std.proofs.Common.{◌≡◌, ℕ, ℤ, suc, ◌+◌, ◌<◌, ◌≤
 use Rattle.std.specs.Prelude.{slice_get}
 use Rattle.std.specs.List.{AllByRecursion}
 use Rattle.std.proofs.lemmas.List.{get_or-set_same}
-use Rattle.ps_meaning.specs.declared.program.Expr.{Expr}
-use Rattle.ps_meaning.specs.declared.program.Expr.TheOpen.{Expr-F}
-use Rattle.ps_meaning.specs.Run as source
-use Rattle.ps_meaning.specs.Run.{Step, Goes, Stops, and_then, pure}
-use Rattle.ps_meaning.specs.Meaning.{Context, Meaning, each, meaning_of, eval}
-use Rattle.ps_meaning.specs.Forms.{has_arity}
-use Rattle.ps_meaning.specs.Valid.{Named}
+use Rattle.ps_base.specs.declared.faults.Place.{Place}
+use Rattle.ps_plain.specs.declared.program.Expr.{Expr}
+use Rattle.ps_plain.specs.declared.program.Expr.TheOpen.{Expr-F}
+use Rattle.ps_plain.specs.Run as source
+use Rattle.ps_plain.specs.Run.{Step, Goes, Stops, and_then, pure}
+use Rattle.ps_plain.specs.Meaning.{Context, Meaning, each, meaning_of, eval}
+use Rattle.ps_plain.specs.Forms.{has_arity}
+use Rattle.ps_plain.specs.Valid.{Named}
 use Rattle.c_ast.specs.declared.unit.Atom.TheVariants as atoms
 use Rattle.c_ast.specs.declared.unit.Statement.{Statement}
 use Rattle.c_ast.specs.declared.unit.Statement.TheVariants as statements
@@ -119,8 +120,8 @@ arity-is : (m : ℕ) (o : Option ℕ) → has_arity m o ≡ true → o ≡ Some 
 arity-is m None e = cc
 arity-is m (Some x) e = ap Some (grind (arith, e))
 
-pub correct-call : (n : Named) (f : ℕ) (es : List Expr) → AreCorrect n es → has_arity (length es) (slice_get n.procedures f) ≡ true → Correct n (meaning_of (Expr-F.Call f (map eval es))) (coded_node (Expr-F.Call f (map coded es)))
-correct-call n f es hs arity = record {
+pub correct-call : (n : Named) (p place : Place) (f : ℕ) (es : List Expr) → AreCorrect n es → has_arity (length es) (slice_get n.procedures f) ≡ true → Correct n (meaning_of (Expr-F.Call p place f (map eval es))) (coded_node (Expr-F.Call p place f (map coded es)))
+correct-call n p place f es hs arity = record {
   runs = λ u fuel ctx pre k l rest s σ at whole before left room fits.
       let cs = map coded es in
       let target = k + operands_size cs in
@@ -129,15 +130,15 @@ correct-call n f es hs arity = record {
       let flat : (O ++ (call ∷ [])) ++ rest ≡ O ++ (call ∷ rest) = append_assoc O (call ∷ []) rest in
       let T = Valued s k (atoms.Variable target) rest in
       let T1 = Gathered s k (operands_places cs k) (call ∷ rest) in
-      does-bind u T1 T s σ (each (map eval es) ctx σ) (λ vs. ctx.enter (ctx.depth + 1) f vs)
+      does-bind u T1 T s σ (each (map eval es) ctx σ) (λ vs. ctx.enter p (ctx.depth + 1) f vs)
       (operands-do n es hs u fuel ctx pre k l (call ∷ rest) s σ at (whole ∙ ap (λ y. pre ++ y) flat) before (left ∙ flat) room (omega arith))
       (λ vs τ t leads g.
       let here = at-after u n fuel ctx s t σ τ k room at leads g.meets g.keeps in
       let size = g.keeps.size in
       let number : length es ≡ length vs = sym (g.count ∙ places-count cs k ∙ length-map es) in
-      let entered = here.enters.by f vs t τ k target (operands_places cs k) rest here.enough (arity-is (length es) (slice_get n.procedures f) arity ∙ ap Some number) g.left g.values (omega arith) (omega arith) here.meets in
-      let at_depth = subst (λ d. Does u t τ (Valued t k (atoms.Variable target) rest) (ctx.enter (d + 1) f vs τ)) here.depth entered in
-      does-then u (Valued t k (atoms.Variable target) rest) T t τ (ctx.enter (ctx.depth + 1) f vs τ) at_depth
+      let entered = here.enters.by p f vs t τ k target (operands_places cs k) rest here.enough (arity-is (length es) (slice_get n.procedures f) arity ∙ ap Some number) g.left g.values (omega arith) (omega arith) here.meets in
+      let at_depth = subst (λ d. Does u t τ (Valued t k (atoms.Variable target) rest) (ctx.enter p (d + 1) f vs τ)) here.depth entered in
+      does-then u (Valued t k (atoms.Variable target) rest) T t τ (ctx.enter p (ctx.depth + 1) f vs τ) at_depth
       (λ v τ2 t2 leads2 g2. record { after = t2; leads = leads-none u t2 τ2; there = record { meets = g2.meets; keeps = keeps-then k k s t t2 (omega arith) g.keeps g2.keeps; left = g2.left; value = g2.value } }));
   below = λ k room. omega arith;
   low = λ k l. all-append _ (operands_code (map coded es) k l) _ (operands-low n es hs k l) (tt, tt);

@@ -9,13 +9,13 @@ use Rattle.byte_store.specs.Outcome.{Outcome, Returned, Running, Wrong}
 use Rattle.byte_store.specs.Worlds.{Surroundings}
 use Rattle.byte_store.proofs.Following.{following_agrees, following_shallow}
 use Rattle.byte_store.proofs.Greater.{greater_le}
-use Rattle.ps_meaning.specs.declared.program.Procedure.{Procedure}
-use Rattle.ps_meaning.specs.declared.program.Program.{Program}
-use Rattle.ps_meaning.specs.Run as source
-use Rattle.ps_meaning.specs.Run.{Step, Goes, Stops, and_then, known, take_one, at_depth}
-use Rattle.ps_meaning.specs.Meaning.{Enter, Context, body, entering, enters, outcome, start, start_place, Source}
-use Rattle.ps_meaning.specs.Valid.{arities_of, named_in, IsValid}
-use Rattle.ps_meaning.proofs.Bounds.{larger_bound, sound}
+use Rattle.ps_plain.specs.declared.program.Procedure.{Procedure}
+use Rattle.ps_plain.specs.declared.program.Program.{Program}
+use Rattle.ps_plain.specs.Run as source
+use Rattle.ps_plain.specs.Run.{Step, Goes, Stops, and_then, known, take_one, at_depth}
+use Rattle.ps_plain.specs.Meaning.{Enter, Context, body, entering, enters, outcome, start, main_place, Source}
+use Rattle.ps_plain.specs.Valid.{arities_of, named_in, IsValid}
+use Rattle.ps_plain.proofs.Bounds.{larger_bound, sound}
 use Rattle.c_ast.specs.declared.unit.CUnit.{CUnit}
 use Rattle.c_meaning.specs.Machine.{State, with_value, locals_of, leave, step_at, machine, begin, CRun}
 use Rattle.c_meaning.proofs.Machines.{larger_bound as machine_bound, deepens}
@@ -106,14 +106,14 @@ module _ (p : Program) (is_valid : IsValid p) (w : Surroundings) where
   abbrev by_calls : ℕ → Enter → source.State → Step ℤ
   by_calls calls go σ = and_then (take_one calls σ) (λ d τ. and_then (at_depth 0 τ) (λ d. body main (context go)))
 
-  source-is : (n : ℕ) (go : Enter) → entering p go 0 0 [] (start n w) ≡ by_calls n go (start n w)
+  source-is : (n : ℕ) (go : Enter) → entering p go (main_place p) 0 0 [] (start n w) ≡ by_calls n go (start n w)
   source-is n go =
-      ap (λ o. and_then (known (Wrong start_place) o (start n w)) (λ x τ. and_then (take_one τ.calls τ) (λ d υ. and_then (at_depth 0 υ) (λ d. body x (context go)))))
+      ap (λ o. and_then (known (Wrong (main_place p)) o (start n w)) (λ x τ. and_then (take_one τ.calls τ) (λ d υ. and_then (at_depth 0 υ) (λ d. body x (context go)))))
       (taken p 0 0 main main-is.1 main-is.2)
 
   follows : (n : ℕ) → FollowsLow 0 1 (Source p w) (CRun unit w) n
   follows zero =
-      let is = ap outcome (source-is 0 (λ d f vs. source.stop Running)) in
+      let is = ap outcome (source-is 0 (λ at d f vs. source.stop Running)) in
       record {
         follows = record { bound = 0; enough = λ r. omega arith; matches = subst (λ (o : Outcome). Matches o (CRun unit w 0)) (sym is) (record { did = refl; ends = refl }) };
         low = subst (λ (o : Outcome). (CRun unit w 0).depth ≤ o.depth + 1) (sym is) (greater_le 0 1 1 (omega arith) (omega arith));

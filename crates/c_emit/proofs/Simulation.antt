@@ -8,8 +8,8 @@ use Rattle.byte_store.specs.Outcome.{Outcome, End, Running, Undefined, Stuck}
 use Rattle.byte_store.specs.Agree.{Matches}
 use Rattle.byte_store.specs.Machine.{Move, Goes as Moves, Ends as Halts, greater, outcome_at, after_move, run_from}
 use Rattle.byte_store.proofs.Greater.{greater_le}
-use Rattle.ps_meaning.specs.Run as source
-use Rattle.ps_meaning.specs.Run.{Step, Goes, Stops, and_then}
+use Rattle.ps_plain.specs.Run as source
+use Rattle.ps_plain.specs.Run.{Step, Goes, Stops, and_then}
 use Rattle.c_ast.specs.declared.unit.Atom.{Atom}
 use Rattle.c_ast.specs.declared.unit.Atom.TheVariants as atoms
 use Rattle.c_ast.specs.declared.unit.Statement.{Statement}

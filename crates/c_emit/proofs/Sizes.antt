@@ -2,11 +2,12 @@
 use Rattle.std.proofs.Common.{◌≡◌, ℕ, zero, suc, ◌+◌, ◌<◌, ◌≤◌, List, [], ◌∷◌, length, map, get_or, sym, ap, subst, arith}
 use Rattle.std.specs.List.{AllByRecursion}
 use Rattle.ps_base.specs.Numbers.{sum_of}
-use Rattle.ps_meaning.specs.declared.program.Expr.{Expr}
-use Rattle.ps_meaning.specs.declared.program.Expr.TheVariants as exprs
-use Rattle.ps_meaning.specs.declared.program.Procedure.{Procedure}
-use Rattle.ps_meaning.specs.Size.{size_node, size, procedure_size}
-use Rattle.ps_meaning.proofs.Trees.{induction, fold-integer, fold-parameter, fold-operation, fold-if, fold-call, fold-read}
+use Rattle.ps_plain.specs.declared.program.Expr.{Expr}
+use Rattle.ps_plain.specs.declared.program.Expr.TheVariants as exprs
+use Rattle.ps_plain.specs.declared.program.Write.{Write}
+use Rattle.ps_plain.specs.declared.program.Procedure.{Procedure}
+use Rattle.ps_plain.specs.Size.{size_node, size, write_size, procedure_size}
+use Rattle.ps_plain.proofs.Trees.{induction, fold-integer, fold-parameter, fold-operation, fold-if, fold-call, fold-read}
 use Rattle.c_emit.specs.Code.{Coded, coded_node, coded, operands_size, operands_labels, writes_size, writes_labels}
 
 -- the code has fewer variables and labels than the size says
@@ -30,19 +31,19 @@ operands-small (e ∷ es) h =
 
 pub smaller : (e : Expr) → Smaller (coded e) (size e)
 smaller = induction IsSmaller
-    (λ i. by-clauses (exprs.Integer i) _ _ (fold-integer coded_node i) (fold-integer size_node i) (record { variables = omega arith; labels = omega arith }))
-    (λ k. by-clauses (exprs.Parameter k) _ _ (fold-parameter coded_node k) (fold-parameter size_node k) (record { variables = omega arith; labels = omega arith }))
-    (λ o a b ha hb. by-clauses (exprs.Operation o a b) _ _ (fold-operation coded_node o a b) (fold-operation size_node o a b) (record { variables = omega (arith, ha.variables, hb.variables); labels = omega (arith, ha.labels, hb.labels) }))
-    (λ q a b c d ha hb hc hd. by-clauses (exprs.If q a b c d) _ _ (fold-if coded_node q a b c d) (fold-if size_node q a b c d)
+    (λ p i. by-clauses (exprs.Integer p i) _ _ (fold-integer coded_node p i) (fold-integer size_node p i) (record { variables = omega arith; labels = omega arith }))
+    (λ p k. by-clauses (exprs.Parameter p k) _ _ (fold-parameter coded_node p k) (fold-parameter size_node p k) (record { variables = omega arith; labels = omega arith }))
+    (λ p o a b ha hb. by-clauses (exprs.Operation p o a b) _ _ (fold-operation coded_node p o a b) (fold-operation size_node p o a b) (record { variables = omega (arith, ha.variables, hb.variables); labels = omega (arith, ha.labels, hb.labels) }))
+    (λ p at q a b c d ha hb hc hd. by-clauses (exprs.If p at q a b c d) _ _ (fold-if coded_node p at q a b c d) (fold-if size_node p at q a b c d)
     (record { variables = omega (arith, ha.variables, hb.variables, hc.variables, hd.variables); labels = omega (arith, ha.labels, hb.labels, hc.labels, hd.labels) }))
-    (λ f es hs. let small = operands-small es hs in by-clauses (exprs.Call f es) _ _ (fold-call coded_node f es) (fold-call size_node f es) (record { variables = omega (arith, small.0); labels = omega (arith, small.1) }))
-    (by-clauses exprs.ReadByte _ _ (fold-read coded_node) (fold-read size_node) (record { variables = omega arith; labels = omega arith }))
+    (λ p at f es hs. let small = operands-small es hs in by-clauses (exprs.Call p at f es) _ _ (fold-call coded_node p at f es) (fold-call size_node p at f es) (record { variables = omega (arith, small.0); labels = omega (arith, small.1) }))
+    (λ p. by-clauses (exprs.ReadByte p) _ _ (fold-read coded_node p) (fold-read size_node p) (record { variables = omega arith; labels = omega arith }))
 
-writes-small : (es : List Expr) → (writes_size es ≤ sum_of (map size es)) × (writes_labels es ≤ sum_of (map size es))
+writes-small : (ws : List Write) → (writes_size ws ≤ sum_of (map write_size ws)) × (writes_labels ws ≤ sum_of (map write_size ws))
 writes-small [] = (omega arith, omega arith)
-writes-small (e ∷ es) =
-    let rest = writes-small es in
-    let first = smaller e in
+writes-small (w ∷ ws) =
+    let rest = writes-small ws in
+    let first = smaller w.value in
     (omega (arith, rest.0, first.variables), omega (arith, rest.1, first.labels))
 
 pub procedure-small : (q : Procedure) → (q.parameters + (writes_size q.writes + (coded q.value).size) + 1 ≤ procedure_size q) × (writes_labels q.writes + (coded q.value).labels + 1 ≤ procedure_size q)

@@ -1,13 +1,14 @@
 -- The statements that compute a program (this project's own).
 use Rattle.std.specs.Prelude.{ℕ, ◌+◌, List, [], ◌∷◌, ◌++◌, map}
-use Rattle.ps_meaning.specs.declared.program.Expr.{Expr, fold-Expr}
-use Rattle.ps_meaning.specs.declared.program.Expr.TheOpen.{Expr-F}
-use Rattle.ps_meaning.specs.declared.program.Operator.{Operator}
-use Rattle.ps_meaning.specs.declared.program.Operator.TheVariants as source
-use Rattle.ps_meaning.specs.declared.program.Comparison.{Comparison}
-use Rattle.ps_meaning.specs.declared.program.Comparison.TheVariants as comparisons
-use Rattle.ps_meaning.specs.declared.program.Procedure.{Procedure}
-use Rattle.ps_meaning.specs.declared.program.Program.{Program}
+use Rattle.ps_plain.specs.declared.program.Expr.{Expr, fold-Expr}
+use Rattle.ps_plain.specs.declared.program.Expr.TheOpen.{Expr-F}
+use Rattle.ps_plain.specs.declared.program.Operator.{Operator}
+use Rattle.ps_plain.specs.declared.program.Operator.TheVariants as source
+use Rattle.ps_plain.specs.declared.program.Comparison.{Comparison}
+use Rattle.ps_plain.specs.declared.program.Comparison.TheVariants as comparisons
+use Rattle.ps_plain.specs.declared.program.Write.{Write}
+use Rattle.ps_plain.specs.declared.program.Procedure.{Procedure}
+use Rattle.ps_plain.specs.declared.program.Program.{Program}
 use Rattle.c_ast.specs.declared.unit.Atom.{Atom}
 use Rattle.c_ast.specs.declared.unit.Atom.TheVariants as atoms
 use Rattle.c_ast.specs.declared.unit.BinaryOperator.{BinaryOperator}
@@ -78,45 +79,45 @@ operands_places [] k = []
 operands_places (c ∷ cs) k = (k + c.size) ∷ operands_places cs (k + (c.size + 1))
 
 abbrev pub coded_node : Expr-F Coded → Coded
-coded_node (Expr-F.Integer i) = record { size = 0; labels = 0; atom = λ k. atoms.Integer i; statements = λ k l. [] }
-coded_node (Expr-F.Parameter i) = record { size = 0; labels = 0; atom = λ k. atoms.Variable i; statements = λ k l. [] }
-coded_node (Expr-F.Operation o a b) = record {
+coded_node (Expr-F.Integer p i) = record { size = 0; labels = 0; atom = λ k. atoms.Integer i; statements = λ k l. [] }
+coded_node (Expr-F.Parameter p i) = record { size = 0; labels = 0; atom = λ k. atoms.Variable i; statements = λ k l. [] }
+coded_node (Expr-F.Operation p o a b) = record {
   size = a.size + b.size + 1;
   labels = a.labels + b.labels;
   atom = λ k. atoms.Variable (k + a.size + b.size);
   statements = operation_code (operator_of o) a b;
 }
-coded_node (Expr-F.If q a b c d) = record {
+coded_node (Expr-F.If p at q a b c d) = record {
   size = a.size + b.size + 1 + d.size + c.size;
   labels = a.labels + b.labels + d.labels + 1 + c.labels + 1;
   atom = λ k. atoms.Variable (k + a.size + b.size);
   statements = if_code (comparison_of q) a b c d;
 }
-coded_node (Expr-F.Call f cs) = record {
+coded_node (Expr-F.Call p at f cs) = record {
   size = operands_size cs + 1;
   labels = operands_labels cs;
   atom = λ k. atoms.Variable (k + operands_size cs);
   statements = λ k l. operands_code cs k l ++ (statements.Call (k + operands_size cs) f (operands_places cs k) ∷ []);
 }
-coded_node Expr-F.ReadByte = record { size = 1; labels = 0; atom = λ k. atoms.Variable k; statements = λ k l. statements.Read k ∷ [] }
+coded_node (Expr-F.ReadByte p) = record { size = 1; labels = 0; atom = λ k. atoms.Variable k; statements = λ k l. statements.Read k ∷ [] }
 
 abbrev pub coded : Expr → Coded
 coded = fold-Expr Coded coded_node
 
--- how many variables and labels the writes of some expressions take, and their statements
-abbrev pub writes_size : List Expr → ℕ
+-- how many variables and labels some writes take, and their statements
+abbrev pub writes_size : List Write → ℕ
 writes_size [] = 0
-writes_size (e ∷ es) = (coded e).size + 1 + writes_size es
+writes_size (w ∷ ws) = (coded w.value).size + 1 + writes_size ws
 
-abbrev pub writes_labels : List Expr → ℕ
+abbrev pub writes_labels : List Write → ℕ
 writes_labels [] = 0
-writes_labels (e ∷ es) = (coded e).labels + writes_labels es
+writes_labels (w ∷ ws) = (coded w.value).labels + writes_labels ws
 
 -- each write computes its operand, and has a variable of its own
-abbrev pub writes_code : List Expr → ℕ → ℕ → List Statement
+abbrev pub writes_code : List Write → ℕ → ℕ → List Statement
 writes_code [] k l = []
-writes_code (e ∷ es) k l =
-    ((coded e).statements k l ++ (statements.Write (k + (coded e).size) ((coded e).atom k) ∷ [])) ++ writes_code es (k + ((coded e).size + 1)) (l + (coded e).labels)
+writes_code (w ∷ ws) k l =
+    ((coded w.value).statements k l ++ (statements.Write (k + (coded w.value).size) ((coded w.value).atom k) ∷ [])) ++ writes_code ws (k + ((coded w.value).size + 1)) (l + (coded w.value).labels)
 
 -- The function of a procedure: its first variables are its parameters.
 abbrev pub statements_of : Procedure → List Statement

@@ -3,9 +3,9 @@
 ghost use Rattle.std.specs.Prelude.{◌≡◌, ℕ, ◌+◌, ◌<◌, ◌^◌, ◌++◌, ◌∷◌, [], length, map, slice_set, OnOk, IfOk};
 ghost use Rattle.byte_store.specs.Agree.{Agree, Shallow};
 ghost use Rattle.byte_store.specs.Worlds.{Surroundings};
-ghost use Rattle.ps_meaning.specs.Meaning.{Source};
-ghost use Rattle.ps_meaning.specs.Size.{program_size};
-ghost use Rattle.ps_meaning.specs.Valid.{IsValid};
+ghost use Rattle.ps_plain.specs.Meaning.{Source};
+ghost use Rattle.ps_plain.specs.Size.{program_size};
+ghost use Rattle.ps_plain.specs.Valid.{IsValid};
 ghost use Rattle.c_ast.specs.declared.unit.Atom.TheVariants as atoms;
 ghost use Rattle.c_ast.specs.declared.unit.Statement.TheVariants as statements;
 ghost use Rattle.c_ast.specs.WellFormed.{IsWellFormed};
@@ -14,7 +14,7 @@ ghost use Rattle.c_emit.specs.Code.{operator_of, comparison_of, coded, operands_
 
 use c_ast::{Atom, BinaryOperator, CFunction, CUnit, Statement};
 use ps_base::{Items, NoMemory};
-use ps_meaning::{Comparison, Expr, Operator, Procedure, Program};
+use ps_plain::{Comparison, Expr, Operator, Procedure, Program};
 use std::alloc::Global;
 
 // The statements so far, and the numbers of the next variable and the next label.
@@ -132,15 +132,15 @@ fn build_expr(alloc: Global, code: &mut Code, e: &Expr) -> Result<Atom, NoMemory
     ensures atom { IfOk result (λ atom. atom ≡ (coded e.now).atom code.old.variables) }
 {
     match e {
-        Expr::Integer(i) => Ok(Atom::Integer(*i)),
-        Expr::Parameter(k) => Ok(Atom::Variable(*k)),
-        Expr::Operation(operator, a, b) => {
+        Expr::Integer(_, i) => Ok(Atom::Integer(*i)),
+        Expr::Parameter(_, k) => Ok(Atom::Variable(*k)),
+        Expr::Operation(_, operator, a, b) => {
             let x = build_expr(alloc, code, a.get())?;
             let y = build_expr(alloc, code, b.get())?;
             let target = operate(code, x, operator_of(*operator), y)?;
             Ok(Atom::Variable(target))
         }
-        Expr::If(comparison, a, b, c, d) => {
+        Expr::If(_, _, comparison, a, b, c, d) => {
             let x = build_expr(alloc, code, a.get())?;
             let y = build_expr(alloc, code, b.get())?;
             let target = operate(code, x, comparison_of(*comparison), y)?;
@@ -151,13 +151,13 @@ fn build_expr(alloc: Global, code: &mut Code, e: &Expr) -> Result<Atom, NoMemory
             finish(code, target, first, jump)?;
             Ok(Atom::Variable(target))
         }
-        Expr::Call(function, operands) => {
+        Expr::Call(_, _, function, operands) => {
             let arguments = build_operands(alloc, code, operands.as_slice())?;
             let target = take_variable(code);
             push(code, Statement::Call(target, *function, arguments))?;
             Ok(Atom::Variable(target))
         }
-        Expr::ReadByte => {
+        Expr::ReadByte(_) => {
             let target = take_variable(code);
             push(code, Statement::Read(target))?;
             Ok(Atom::Variable(target))
@@ -210,8 +210,8 @@ fn build_function(alloc: Global, procedure: &Procedure) -> Result<CFunction, NoM
         variables: procedure.parameters,
         labels: 0,
     };
-    for e in procedure.writes.as_slice() {
-        build_write(alloc, &mut code, e)?;
+    for write in procedure.writes.as_slice() {
+        build_write(alloc, &mut code, &write.value)?;
     }
     let value = build_expr(alloc, &mut code, &procedure.value)?;
     push(&mut code, Statement::Return(value))?;

@@ -5,9 +5,9 @@ use Rattle.std.proofs.lemmas.List.{map-append}
 use Rattle.ps_base.specs.Names.{AreDistinct, IsNew}
 use Rattle.ps_datum.specs.declared.datum.Datum.{Datum}
 use Rattle.ps_datum.specs.Weight.{weight, weights}
-use Rattle.ps_meaning.specs.Forms.{Head, IsHead, part, heads_of, all_some, and_also, procedures_in, scope_in, names_in, arities_in}
-use Rattle.ps_meaning.proofs.Fine.{fine}
-use Rattle.ps_meaning.proofs.Lists.{joined}
+use Rattle.ps_plain.specs.Forms.{Head, IsHead, part, heads_of, all_some, and_also, procedures_in, scope_in, names_in, arities_in}
+use Rattle.ps_plain.proofs.Fine.{fine}
+use Rattle.ps_plain.proofs.Lists.{joined}
 use Rattle.ps_resolve.specs.declared.definition.Definition.{Definition}
 use Rattle.ps_resolve.specs.Definitions.{AreDefinitions, AreDefinitionsByRecursion, IsDefinition, head_in, heads_in, procedure_at, procedure_among}
 use Rattle.ps_resolve.proofs.Options.{around_place}
@@ -104,5 +104,5 @@ new_name xs i x within is distinct =
     new-in_distinct (names_in (heads_in (take i xs))) (names_in (heads_in (drop (i + 1) xs))) x.name.now (subst AreDistinct parts distinct)
 
 -- what names stand for in the body of a definition
-pub among : (names : List (List ℕ)) (heads : List Head) (x : Definition) (defined : List (List ℕ)) (arities : List ℕ) → defined ≡ names_in heads → arities ≡ arities_in heads → procedure_at names (record { parameters = x.parameters; procedures = defined; arities = arities }) x.body.now ≡ procedure_among names heads x
-among names heads x defined arities e f = λ i. procedure_at names (record { parameters = x.parameters; procedures = e i; arities = f i }) x.body.now
+pub among : (names : List (List ℕ)) (heads : List Head) (x : Definition) (defined : List (List ℕ)) (arities : List ℕ) → defined ≡ names_in heads → arities ≡ arities_in heads → procedure_at names x.place (Some x.number) (record { parameters = x.parameters; procedures = defined; arities = arities }) x.body.now ≡ procedure_among names heads x
+among names heads x defined arities e f = λ i. procedure_at names x.place (Some x.number) (record { parameters = x.parameters; procedures = e i; arities = f i }) x.body.now

@@ -4,9 +4,9 @@ use Rattle.std.specs.Prelude.{Option, ◌==◌}
 use Rattle.std.proofs.lemmas.List.{map-append, take_rest}
 use Rattle.ps_base.specs.declared.faults.Place.{Place}
 use Rattle.ps_datum.specs.declared.datum.Datum.{Datum}
-use Rattle.ps_meaning.specs.Faults.{Flaws, flaws, or_else, body_shape, body_names, defined_shape, definition_list_shape}
-use Rattle.ps_meaning.specs.declared.program.Keyword.{Keyword}
-use Rattle.ps_meaning.specs.Forms.{Scope, keyword_in}
+use Rattle.ps_plain.specs.Faults.{Flaws, flaws, or_else, body_shape, body_names, defined_shape, definition_list_shape}
+use Rattle.ps_plain.specs.declared.program.Keyword.{Keyword}
+use Rattle.ps_plain.specs.Forms.{Scope, keyword_in}
 use Rattle.ps_resolve.specs.Kinds.{write_shapes}
 use Rattle.ps_resolve.specs.NameTables.{writes_names}
 

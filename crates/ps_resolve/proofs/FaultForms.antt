@@ -11,9 +11,9 @@ use Rattle.ps_datum.specs.declared.datum.DatumKind.{DatumKind, fold-DatumKind}
 use Rattle.ps_datum.specs.declared.datum.DatumKind.TheOpen.{Datum-F}
 use Rattle.ps_datum.specs.Weight.{weight, weights, weight_node}
 use Rattle.ps_datum.proofs.Trees.{induction, fold-datum, fold-boolean, fold-integer, fold-char, fold-text, fold-symbol, fold-list, fold-dotted, fold-vector}
-use Rattle.ps_meaning.specs.Meaning.{start_place}
-use Rattle.ps_meaning.specs.Forms.{Head, part, and_also, heads_of, scope_in}
-use Rattle.ps_meaning.specs.Faults.{flaws, or_else, body_names, shapes_fault, names_from, names_fault, no_parameters, is_main, main_fault, text_fault, fault_of}
+use Rattle.ps_plain.specs.Meaning.{start_place}
+use Rattle.ps_plain.specs.Forms.{Head, part, and_also, heads_of, scope_in}
+use Rattle.ps_plain.specs.Faults.{flaws, or_else, body_names, shapes_fault, names_from, names_fault, no_parameters, is_main, main_fault, text_fault, fault_of}
 use Rattle.ps_resolve.specs.declared.faults.DefinitionParts.{DefinitionParts}
 use Rattle.ps_resolve.specs.Heads.{HasParts, HaveHeads, IsHeadOf, head_at, head_fault, names_walk}
 use Rattle.ps_resolve.proofs.FaultHeads.{or_none, or_none-last}

@@ -4,15 +4,16 @@ use Rattle.std.specs.Prelude.{Option, slice_get, if◌then◌else◌, is_some}
 use Rattle.std.specs.List.{AllByRecursion, list_all}
 use Rattle.std.specs.Cmp.Derive.{both_true}
 use Rattle.ps_base.specs.declared.faults.Place.{Place}
+use Rattle.ps_base.specs.declared.names.Name.{Name}
 use Rattle.ps_datum.specs.declared.datum.Datum.{Datum, out-Datum}
 use Rattle.ps_datum.specs.declared.datum.DatumKind.{DatumKind, fold-DatumKind}
 use Rattle.ps_datum.specs.declared.datum.DatumKind.TheOpen.{DatumKind-F, Datum-F}
 use Rattle.ps_datum.specs.declared.datum.DatumKind.TheVariants as k
 use Rattle.ps_datum.proofs.Trees.{induction, datum_at, fold-datum, fold-boolean, fold-integer, fold-char, fold-text, fold-symbol, fold-list, fold-dotted, fold-vector}
-use Rattle.ps_meaning.specs.declared.program.Keyword.{Keyword}
-use Rattle.ps_meaning.specs.declared.program.Keyword.TheVariants as keywords
-use Rattle.ps_meaning.specs.Forms.{Part, part, part_node, no_part, word_part, list_part, Head, keyword_in, defined_by, head_by, is_name, all_some, and_also, scope_in}
-use Rattle.ps_meaning.specs.Faults.{Flaws, flaws, flaws_node, shapeless, name_flaws, word_flaws, list_flaws, or_else, is_among, parameters_names, body_in, body_names, defined_shape, definition_list_shape, definition_list_names, head_list_shape, head_list_names}
+use Rattle.ps_plain.specs.declared.program.Keyword.{Keyword}
+use Rattle.ps_plain.specs.declared.program.Keyword.TheVariants as keywords
+use Rattle.ps_plain.specs.Forms.{Part, part, part_node, no_part, word_part, list_part, Head, keyword_in, defined_by, head_by, is_name, all_some, and_also, scope_in}
+use Rattle.ps_plain.specs.Faults.{Flaws, flaws, flaws_node, shapeless, name_flaws, word_flaws, list_flaws, or_else, is_among, parameters_names, body_in, body_names, defined_shape, definition_list_shape, definition_list_names, head_list_shape, head_list_names}
 use Rattle.ps_resolve.specs.declared.faults.DefinitionParts.{DefinitionParts}
 use Rattle.ps_resolve.specs.Kinds.{IsList, IsNoList, name_shapes}
 use Rattle.ps_resolve.specs.Heads.{IsDefine, HasParts, head_or, head_at, head_fault, words_of}
@@ -37,25 +38,25 @@ pub record Alike (q : Part) (f : Flaws) (p : Place) : Type 0 where
 alike_none : (q : Part) (p : Place) → q.word ≡ None → q.words ≡ None → Alike q (shapeless p) p
 alike_none q p word words = record { word = word; words = words; place = refl; named = λ h. absurd cc }
 
-alike_name : (w : List ℕ) (p : Place) (b : Bool) → is_name w ≡ b → Alike (word_part (Some w)) (name_flaws p w b) p
-alike_name w p true e = record { word = refl; words = refl; place = refl; named = λ h. record { text = w; is = refl; is_one = e } }
-alike_name w p false e = record { word = refl; words = refl; place = refl; named = λ h. absurd cc }
+alike_name : (n : Name) (w : List ℕ) (p : Place) (b : Bool) → is_name w ≡ b → Alike (word_part p n (Some w)) (name_flaws p w b) p
+alike_name n w p true e = record { word = refl; words = refl; place = refl; named = λ h. record { text = w; is = refl; is_one = e } }
+alike_name n w p false e = record { word = refl; words = refl; place = refl; named = λ h. absurd cc }
 
-alike_word : (m : Option (List ℕ)) (p : Place) → Alike (word_part m) (word_flaws p m) p
-alike_word None p = alike_none no_part p refl refl
-alike_word (Some w) p = alike_name w p (is_name w) refl
+alike_word : (n : Name) (m : Option (List ℕ)) (p : Place) → Alike (word_part p n m) (word_flaws p m) p
+alike_word n None p = alike_none (no_part p) p refl refl
+alike_word n (Some w) p = alike_name n w p (is_name w) refl
 
-none : (p : Place) → Alike no_part (shapeless p) p
-none p = alike_none no_part p refl refl
+none : (p : Place) → Alike (no_part p) (shapeless p) p
+none p = alike_none (no_part p) p refl refl
 
-abbrev pt : Datum-F Part Part → Part
-pt d = d.kind
+abbrev pt : Datum-F (Place → Part) Part → Part
+pt d = d.kind d.place
 
 abbrev ft : Datum-F (Place → Flaws) Flaws → Flaws
 ft d = d.kind d.place
 
 module _ (names : List (List ℕ)) where
-  abbrev ps : DatumKind-F Part Part → Part
+  abbrev ps : DatumKind-F (Place → Part) Part → Place → Part
   ps = part_node names
 
   abbrev fs : DatumKind-F (Place → Flaws) Flaws → Place → Flaws
@@ -66,17 +67,17 @@ module _ (names : List (List ℕ)) where
 
   -- the same of a kind, at each place
   abbrev AreAlikeAt : DatumKind → Type 0
-  AreAlikeAt x = (p : Place) → Alike (fold-DatumKind Part Part ps pt x) (fold-DatumKind (Place → Flaws) Flaws fs ft x p) p
+  AreAlikeAt x = (p : Place) → Alike (fold-DatumKind (Place → Part) Part ps pt x p) (fold-DatumKind (Place → Flaws) Flaws fs ft x p) p
 
   same_words : (ds : List Datum) → AllByRecursion AreAlike ds → map (λ (q : Part). q.word) (map (part names) ds) ≡ map (λ (f : Flaws). f.word) (map (flaws names) ds)
   same_words [] all = refl
   same_words (d ∷ ds) all = (λ i. all.0.word i ∷ same_words ds all.1 i)
 
-  alike_list : (ds : List Datum) (p : Place) → AllByRecursion AreAlike ds → Alike (list_part (map (part names) ds)) (list_flaws p (map (flaws names) ds)) p
+  alike_list : (ds : List Datum) (p : Place) → AllByRecursion AreAlike ds → Alike (list_part p (map (part names) ds)) (list_flaws p (map (flaws names) ds)) p
   alike_list ds p all = record { word = refl; words = ap all_some (same_words ds all); place = refl; named = λ h. absurd cc }
 
-  by : (x : DatumKind) (q : Part) (f : Place → Flaws) → fold-DatumKind Part Part ps pt x ≡ q → fold-DatumKind (Place → Flaws) Flaws fs ft x ≡ f → ((p : Place) → Alike q (f p) p) → AreAlikeAt x
-  by x q f is_q is_f h p = subst (λ z. Alike z (fold-DatumKind (Place → Flaws) Flaws fs ft x p) p) (sym is_q) (subst (λ z. Alike q (z p) p) (sym is_f) (h p))
+  by : (x : DatumKind) (q : Place → Part) (f : Place → Flaws) → fold-DatumKind (Place → Part) Part ps pt x ≡ q → fold-DatumKind (Place → Flaws) Flaws fs ft x ≡ f → ((p : Place) → Alike (q p) (f p) p) → AreAlikeAt x
+  by x q f is_q is_f h p = subst (λ z. Alike (z p) (fold-DatumKind (Place → Flaws) Flaws fs ft x p) p) (sym is_q) (subst (λ z. Alike (q p) (z p) p) (sym is_f) (h p))
 
   pub alike : (d : Datum) → AreAlike d
   alike = induction AreAlikeAt AreAlike
@@ -84,11 +85,11 @@ module _ (names : List (List ℕ)) where
       (λ n. by (k.Integer n) (part_node names (DatumKind-F.Integer n)) (flaws_node names (DatumKind-F.Integer n)) (fold-integer ps pt n) (fold-integer fs ft n) (λ p. record { word = refl; words = refl; place = refl; named = λ h. absurd cc }))
       (λ c. by (k.Char c) no_part shapeless (fold-char ps pt c) (fold-char fs ft c) none)
       (λ t. by (k.Text t) no_part shapeless (fold-text ps pt t) (fold-text fs ft t) none)
-      (λ n. by (k.Symbol n) (word_part (slice_get names n.0)) (λ p. word_flaws p (slice_get names n.0)) (fold-symbol ps pt n) (fold-symbol fs ft n) (alike_word (slice_get names n.0)))
-      (λ ds all. by (k.List ds) (list_part (map (part names) ds)) (λ p. list_flaws p (map (flaws names) ds)) (fold-list ps pt ds) (fold-list fs ft ds) (λ p. alike_list ds p all))
+      (λ n. by (k.Symbol n) (λ p. word_part p n (slice_get names n.0)) (λ p. word_flaws p (slice_get names n.0)) (fold-symbol ps pt n) (fold-symbol fs ft n) (alike_word n (slice_get names n.0)))
+      (λ ds all. by (k.List ds) (λ p. list_part p (map (part names) ds)) (λ p. list_flaws p (map (flaws names) ds)) (fold-list ps pt ds) (fold-list fs ft ds) (λ p. alike_list ds p all))
       (λ ds d all last. by (k.Dotted ds d) no_part shapeless (fold-dotted ps pt ds d) (fold-dotted fs ft ds d) none)
       (λ ds all. by (k.Vector ds) no_part shapeless (fold-vector ps pt ds) (fold-vector fs ft ds) none)
-      (λ p x h. subst (λ z. Alike z (flaws names (datum_at p x)) p) (sym (fold-datum ps pt p x)) (subst (λ z. Alike (fold-DatumKind Part Part ps pt x) z p) (sym (fold-datum fs ft p x)) (h p)))
+      (λ p x h. subst (λ z. Alike z (flaws names (datum_at p x)) p) (sym (fold-datum ps pt p x)) (subst (λ z. Alike (fold-DatumKind (Place → Part) Part ps pt x p) z p) (sym (fold-datum fs ft p x)) (h p)))
 
 -- ---- definitions
 
@@ -141,7 +142,7 @@ module _ (names : List (List ℕ)) (form : Datum) (parts : List Datum) (is : IsL
         shape = d.1;
         reads =
             ap (λ (q : Part). q.head) (is.reads names)
-            ∙ ap (λ z. (list_part (map (part names) z)).head) e
+            ∙ ap (λ z. (list_part (out-Datum form).place (map (part names) z)).head) e
             ∙ (λ i. defined_by (keyword_in ((alike names first).word i)) (head_by ((alike names head).words i)))
             ∙ ap (λ z. defined_by z (head_by (flaws names head).words)) d.0;
         fault_is = λ heads defined. ap (λ (f : Flaws). f.definition_names heads defined) (is.is names) ∙ ap (λ z. definition_list_names heads defined (map (flaws names) z)) e;

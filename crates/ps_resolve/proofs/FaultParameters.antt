@@ -5,9 +5,9 @@ use Rattle.std.proofs.lemmas.List.{take_more, drop_more, map-append, length-appe
 use Rattle.std.proofs.lemmas.Bool.{lt-ltb}
 use Rattle.ps_base.specs.declared.faults.Place.{Place}
 use Rattle.ps_datum.specs.declared.datum.Datum.{Datum}
-use Rattle.ps_meaning.specs.Forms.{all_some, and_also}
-use Rattle.ps_meaning.specs.Faults.{Flaws, flaws, is_among, with_word, parameters_names}
-use Rattle.ps_meaning.proofs.Lists.{joined}
+use Rattle.ps_plain.specs.Forms.{all_some, and_also}
+use Rattle.ps_plain.specs.Faults.{Flaws, flaws, is_among, with_word, parameters_names}
+use Rattle.ps_plain.proofs.Lists.{joined}
 use Rattle.ps_resolve.specs.Heads.{IsKnown, words_of}
 
 -- the last of options that all hold something

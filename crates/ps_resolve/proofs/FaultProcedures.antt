@@ -7,9 +7,9 @@ use Rattle.std.proofs.lemmas.Slice.Eq.{bytes_eq-Decides}
 use Rattle.std.proofs.lemmas.List.{map-append, length-append, length-map}
 use Rattle.ps_base.specs.Names.{number_of}
 use Rattle.ps_base.proofs.Tables.{true_or_false}
-use Rattle.ps_meaning.specs.Forms.{Head, all_some, names_in, arities_in}
-use Rattle.ps_meaning.specs.Faults.{Flaws, flaws}
-use Rattle.ps_meaning.proofs.Lists.{joined}
+use Rattle.ps_plain.specs.Forms.{Head, all_some, names_in, arities_in}
+use Rattle.ps_plain.specs.Faults.{Flaws, flaws}
+use Rattle.ps_plain.proofs.Lists.{joined}
 use Rattle.ps_resolve.specs.declared.faults.DefinitionParts.{DefinitionParts}
 use Rattle.ps_resolve.specs.declared.faults.Procedures.{Procedures}
 use Rattle.ps_resolve.specs.Heads.{IsAdded, IsHeadOf, Knows, arity_at}

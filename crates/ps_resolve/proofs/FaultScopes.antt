@@ -10,10 +10,10 @@ use Rattle.ps_datum.specs.declared.datum.DatumKind.{DatumKind, fold-DatumKind}
 use Rattle.ps_datum.specs.declared.datum.DatumKind.TheOpen.{DatumKind-F, Datum-F}
 use Rattle.ps_datum.specs.declared.datum.DatumKind.TheVariants as k
 use Rattle.ps_datum.proofs.Trees.{induction, fold-datum, fold-boolean, fold-integer, fold-char, fold-text, fold-symbol, fold-list, fold-dotted, fold-vector}
-use Rattle.ps_meaning.specs.declared.program.Keyword.{Keyword}
-use Rattle.ps_meaning.specs.declared.program.Keyword.TheVariants as keywords
-use Rattle.ps_meaning.specs.Forms.{Scope, keyword_of, is_name}
-use Rattle.ps_meaning.specs.Faults.{Flaws, flaws, flaws_node, shapeless, name_flaws, word_flaws, list_flaws, or_else, exprs_names, has_operands, called_names, call_names, conditional_names, form_names, headed_names, list_names, behind_names, body_names}
+use Rattle.ps_plain.specs.declared.program.Keyword.{Keyword}
+use Rattle.ps_plain.specs.declared.program.Keyword.TheVariants as keywords
+use Rattle.ps_plain.specs.Forms.{Scope, keyword_of, is_name}
+use Rattle.ps_plain.specs.Faults.{Flaws, flaws, flaws_node, shapeless, name_flaws, word_flaws, list_flaws, or_else, exprs_names, has_operands, called_names, call_names, conditional_names, form_names, headed_names, list_names, behind_names, body_names}
 use Rattle.ps_resolve.specs.Heads.{arity_at}
 
 -- the same parameters, and the same numbers of operands for each name of a procedure

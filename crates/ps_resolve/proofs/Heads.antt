@@ -4,11 +4,12 @@ use Rattle.std.specs.Prelude.{Option, codes, if◌then◌else◌}
 use Rattle.std.specs.List.{list_all}
 use Rattle.std.specs.Cmp.Derive.{both_true}
 use Rattle.std.proofs.lemmas.List.{length-map}
-use Rattle.ps_datum.specs.declared.datum.Datum.{Datum}
-use Rattle.ps_meaning.specs.Forms.{Part, part, Head, IsHead, main_head, and_also, head_by, is_name}
-use Rattle.ps_meaning.proofs.Lists.{joined}
-use Rattle.ps_meaning.proofs.Tests.{and_true}
-use Rattle.ps_resolve.specs.Definitions.{words_of, IsDefine, AreParameters}
+use Rattle.ps_base.specs.declared.names.Name.{Name}
+use Rattle.ps_datum.specs.declared.datum.Datum.{Datum, out-Datum}
+use Rattle.ps_plain.specs.Forms.{Scope, Part, part, Head, IsHead, main_head, and_also, head_by, first_symbol, is_name}
+use Rattle.ps_plain.proofs.Lists.{joined}
+use Rattle.ps_plain.proofs.Tests.{and_true}
+use Rattle.ps_resolve.specs.Definitions.{words_of, procedure_at, IsDefine, AreParameters}
 use Rattle.ps_resolve.proofs.Options.{length-all_some}
 
 true_or_false : (b : Bool) → (b ≡ true) ⊎ (b ≡ false)
@@ -90,3 +91,13 @@ head-of_parameters names form (e ∷ words) body is long d at f word is_one xs a
       words = (λ i. and_also ((ap (λ z. (part names z).word) (sym at) ∙ word) i) (are.words i));
       are_names = both_true is_one are.are_names;
     })
+
+-- the number of the word that stands first
+pub first_word : (names : List (List ℕ)) (words : List Datum) → 1 ≤ length words → (d : Datum) → d ≡ get_or words 0 d → (f : Name) → (part names d).symbol ≡ Some f → first_symbol (map (part names) words) ≡ Some f
+first_word names [] long d at f is = absurd (omega arith)
+first_word names (e ∷ words) long d at f is = ap (λ z. (part names z).symbol) (sym at) ∙ is
+
+-- the procedure of a definition, by its name
+module _ (names : List (List ℕ)) (form : Datum) (words body : List Datum) (is : IsDefine names form words body) (long : 1 ≤ length words) (d : Datum) (at : d ≡ get_or words 0 d) (f : Name) (symbol : (part names d).symbol ≡ Some f) where
+  pub procedure-of_name : (s : Scope) → (part names form).procedure s ≡ procedure_at names (out-Datum form).place (Some f) s body
+  procedure-of_name s = is.procedure s ∙ ap (λ z. procedure_at names (out-Datum form).place z s body) (first_word names words long d at f symbol)

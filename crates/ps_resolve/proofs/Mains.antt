@@ -3,7 +3,7 @@ use Rattle.std.proofs.Common.{◌≡◌, ℕ, ◌<◌, ◌≤◌, List, ◌∷�
 use Rattle.std.specs.Prelude.{slice_get}
 use Rattle.std.proofs.lemmas.List.{length-append}
 use Rattle.ps_datum.specs.declared.datum.Datum.{Datum}
-use Rattle.ps_meaning.specs.Forms.{part, main_head}
+use Rattle.ps_plain.specs.Forms.{part, main_head}
 use Rattle.ps_resolve.specs.Definitions.{IsAround}
 use Rattle.ps_resolve.proofs.Parameters.{slice_get-behind}
 

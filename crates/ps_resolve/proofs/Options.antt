@@ -3,8 +3,8 @@ use Rattle.std.proofs.Common.{◌≡◌, ℕ, suc, ◌+◌, ◌<◌, List, [], �
 use Rattle.std.specs.Prelude.{Option}
 use Rattle.std.proofs.lemmas.List.{take-append-drop, take_more, drop_more, map-append}
 use Rattle.std.proofs.lemmas.Simd.{map-map}
-use Rattle.ps_meaning.specs.Forms.{all_some, and_also}
-use Rattle.ps_meaning.proofs.Lists.{joined}
+use Rattle.ps_plain.specs.Forms.{all_some, and_also}
+use Rattle.ps_plain.proofs.Lists.{joined}
 
 pub length-all_some : {A : Type 0} (xs : List (Option A)) (ys : List A) → all_some xs ≡ Some ys → length xs ≡ length ys
 length-all_some [] ys h = let e : ys ≡ [] = cc in ap length (sym e)

@@ -7,8 +7,8 @@ use Rattle.std.proofs.lemmas.List.{length-append}
 use Rattle.std.proofs.lemmas.List.Folds.{list_all-append}
 use Rattle.ps_base.specs.Names.{AreDistinct, IsNew}
 use Rattle.ps_datum.specs.declared.datum.Datum.{Datum}
-use Rattle.ps_meaning.specs.Forms.{Part, part, is_name}
-use Rattle.ps_meaning.proofs.Tests.{and_true}
+use Rattle.ps_plain.specs.Forms.{Part, part, is_name}
+use Rattle.ps_plain.proofs.Tests.{and_true}
 use Rattle.ps_resolve.specs.Definitions.{AreParameters}
 use Rattle.ps_resolve.proofs.Options.{one_more, split_at}
 

@@ -4,10 +4,10 @@ use Rattle.std.proofs.lemmas.List.{length-append}
 use Rattle.ps_base.specs.Names.{AreDistinct}
 use Rattle.ps_datum.specs.declared.datum.Datum.{Datum}
 use Rattle.ps_datum.specs.Weight.{weights}
-use Rattle.ps_meaning.specs.declared.program.Procedure.{Procedure}
-use Rattle.ps_meaning.specs.declared.program.Program.{Program}
-use Rattle.ps_meaning.specs.Forms.{IsProgram, heads_of, names_in, procedures_in}
-use Rattle.ps_meaning.proofs.Order.{same_order}
+use Rattle.ps_plain.specs.declared.program.Procedure.{Procedure}
+use Rattle.ps_plain.specs.declared.program.Program.{Program}
+use Rattle.ps_plain.specs.Forms.{IsProgram, heads_of, names_in, procedures_in}
+use Rattle.ps_plain.proofs.Order.{same_order}
 use Rattle.ps_resolve.specs.declared.definition.Definition.{Definition}
 use Rattle.ps_resolve.specs.Definitions.{IsAround, AreDefinitions, AreProcedures, heads_in}
 use Rattle.ps_resolve.proofs.Definitions.{GoodHeads, heads-of_definitions, are_heads, procedures-of_definitions, length-definitions, length-weights}

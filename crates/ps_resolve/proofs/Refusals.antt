@@ -1,7 +1,7 @@
 -- Refusals of one that are refusals of all.
 use Rattle.std.proofs.Common.{◌≡◌, ℕ, ◌<◌, List, map, length, get_or, None, Some, sym, ◌∙◌}
 use Rattle.std.specs.Prelude.{Option}
-use Rattle.ps_meaning.specs.Forms.{all_some}
+use Rattle.ps_plain.specs.Forms.{all_some}
 use Rattle.ps_resolve.specs.declared.program.Unresolved.{Unresolved}
 use Rattle.ps_resolve.specs.declared.program.Unresolved.TheVariants.{NotProgram, NoMemory}
 use Rattle.ps_resolve.specs.Refusals.{RefusesBy, IsNotProgram}

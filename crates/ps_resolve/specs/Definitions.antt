@@ -2,23 +2,25 @@
 use Rattle.std.specs.Prelude.{◌≡◌, ℕ, ◌≤◌, List, [], ◌∷◌, ◌++◌, length, map, true, Option, Some}
 use Rattle.std.specs.List.{list_all}
 use Rattle.ps_base.specs.Names.{AreDistinct}
-use Rattle.ps_datum.specs.declared.datum.Datum.{Datum}
-use Rattle.ps_meaning.specs.declared.program.Procedure.{Procedure}
-use Rattle.ps_meaning.specs.Forms.{Scope, Part, part, Head, IsHead, main_head, is_name, all_some, body_of, head_by, procedure_by, names_in, scope_in}
+use Rattle.ps_base.specs.declared.faults.Place.{Place}
+use Rattle.ps_base.specs.declared.names.Name.{Name}
+use Rattle.ps_datum.specs.declared.datum.Datum.{Datum, out-Datum}
+use Rattle.ps_plain.specs.declared.program.Procedure.{Procedure}
+use Rattle.ps_plain.specs.Forms.{Scope, Part, part, Head, IsHead, main_head, is_name, all_some, body_of, head_by, first_symbol, procedure_by, names_in, scope_in}
 use Rattle.ps_resolve.specs.declared.definition.Definition.{Definition}
 
 -- the words that data are
 abbrev pub words_of : List (List ℕ) → List Datum → Option (List (List ℕ))
 words_of names ds = all_some (map (λ (p : Part). p.word) (map (part names) ds))
 
--- what a body is as a procedure
-abbrev pub procedure_at : List (List ℕ) → Scope → List Datum → Option Procedure
-procedure_at names s body = procedure_by s (body_of s (map (part names) body))
+-- what a body is as the procedure of a name, whose definition stands at a place
+abbrev pub procedure_at : List (List ℕ) → Place → Option Name → Scope → List Datum → Option Procedure
+procedure_at names p name s body = procedure_by p s (body_of s (map (part names) body)) name
 
 -- the form is `(define (words ...) body ...)`, whatever its words are
 pub record IsDefine (names : List (List ℕ)) (form : Datum) (words body : List Datum) : Type 0 where
   pub head : (part names form).head ≡ head_by (words_of names words)
-  pub procedure : (s : Scope) → (part names form).procedure s ≡ procedure_at names s body
+  pub procedure : (s : Scope) → (part names form).procedure s ≡ procedure_at names (out-Datum form).place (first_symbol (map (part names) words)) s body
 
 -- the data are the different names of not too many parameters
 pub record AreParameters (names : List (List ℕ)) (ds : List Datum) (parameters : List (List ℕ)) : Type 0 where
@@ -38,7 +40,7 @@ heads_in xs = map head_in xs
 pub record IsDefinition (names : List (List ℕ)) (form : Datum) (x : Definition) : Type 0 where
   pub head : (part names form).head ≡ Some (head_in x)
   pub is_head : IsHead (head_in x)
-  pub procedure : (s : Scope) → (part names form).procedure s ≡ procedure_at names s x.body.now
+  pub procedure : (s : Scope) → (part names form).procedure s ≡ procedure_at names x.place (Some x.number) s x.body.now
 
 abbrev pub AreDefinitionsByRecursion : List (List ℕ) → List Datum → List Definition → Type 0
 AreDefinitionsByRecursion names [] [] = Unit {0}
@@ -51,7 +53,7 @@ pub record AreDefinitions (names : List (List ℕ)) (forms : List Datum) (xs : L
 
 -- the procedure of a definition, among definitions with these heads
 abbrev pub procedure_among : List (List ℕ) → List Head → Definition → Option Procedure
-procedure_among names heads x = procedure_at names (scope_in heads (head_in x)) x.body.now
+procedure_among names heads x = procedure_at names x.place (Some x.number) (scope_in heads (head_in x)) x.body.now
 
 -- the procedures of definitions, whose names are different
 pub record AreProcedures (names : List (List ℕ)) (xs : List Definition) (qs : List Procedure) : Type 0 where

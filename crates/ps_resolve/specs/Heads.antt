@@ -4,8 +4,8 @@ use Rattle.std.specs.Option.{option_map}
 use Rattle.ps_base.specs.Names.{number_of}
 use Rattle.ps_base.specs.declared.faults.Place.{Place}
 use Rattle.ps_datum.specs.declared.datum.Datum.{Datum}
-use Rattle.ps_meaning.specs.Forms.{Head, part, main_head, head_by, all_some, heads_of, names_in, arities_in, scope_in}
-use Rattle.ps_meaning.specs.Faults.{Flaws, flaws, or_else, is_among, with_word, parameters_names, body_in, body_names}
+use Rattle.ps_plain.specs.Forms.{Head, part, main_head, head_by, all_some, heads_of, names_in, arities_in, scope_in}
+use Rattle.ps_plain.specs.Faults.{Flaws, flaws, or_else, is_among, with_word, parameters_names, body_in, body_names}
 use Rattle.ps_resolve.specs.declared.faults.DefinitionParts.{DefinitionParts}
 use Rattle.ps_resolve.specs.declared.faults.Procedures.{Procedures}
 

@@ -2,13 +2,13 @@
 use Rattle.std.specs.Prelude.{◌≡◌, ℕ, List, map, Option, Some, None}
 use Rattle.ps_base.specs.declared.faults.Place.{Place}
 use Rattle.ps_datum.specs.declared.datum.Datum.{Datum, out-Datum}
-use Rattle.ps_meaning.specs.Faults.{Flaws, flaws, list_flaws, first_of}
-use Rattle.ps_meaning.specs.Forms.{Scope, part, list_part}
+use Rattle.ps_plain.specs.Faults.{Flaws, flaws, list_flaws, first_of}
+use Rattle.ps_plain.specs.Forms.{Scope, part, list_part}
 
 -- the datum is a list of these parts
 pub record IsList (d : Datum) (parts : List Datum) : Type 0 where
   pub is : (names : List (List ℕ)) → flaws names d ≡ list_flaws (out-Datum d).place (map (flaws names) parts)
-  pub reads : (names : List (List ℕ)) → part names d ≡ list_part (map (part names) parts)
+  pub reads : (names : List (List ℕ)) → part names d ≡ list_part (out-Datum d).place (map (part names) parts)
 
 -- the datum is no list
 pub record IsNoList (d : Datum) : Type 0 where

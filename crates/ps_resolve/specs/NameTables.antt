@@ -1,8 +1,8 @@
 -- What tables of names stand for.
 use Rattle.std.specs.Prelude.{List, map, Option}
 use Rattle.ps_base.specs.declared.faults.Place.{Place}
-use Rattle.ps_meaning.specs.Forms.{Scope}
-use Rattle.ps_meaning.specs.Faults.{Flaws, first_of}
+use Rattle.ps_plain.specs.Forms.{Scope}
+use Rattle.ps_plain.specs.Faults.{Flaws, first_of}
 use Rattle.ps_resolve.specs.declared.name_faults.NamesInScope.{NamesInScope}
 
 abbrev pub scope_of : NamesInScope → Scope

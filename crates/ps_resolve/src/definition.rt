@@ -2,26 +2,28 @@
 
 ghost use Rattle.std.specs.Prelude.{◌≡◌, ◌<◌, ◌++◌, ◌∷◌, [], List, ℕ, true, false, map, length, MatchOption, None, Some, IfOk, IsTrue, ◌↔◌};
 ghost use Rattle.ps_base.specs.Names.{AreDistinct, IsNew};
-ghost use Rattle.ps_meaning.specs.Forms.{Part, part, Head, IsHead, main_head, is_name, all_some};
+ghost use Rattle.ps_plain.specs.Forms.{Part, part, Head, IsHead, main_head, is_name, all_some};
 ghost use Rattle.ps_resolve.specs.Refusals.{IsRead, IsUnresolved};
 ghost use Rattle.ps_resolve.specs.Values.{scope_of};
 ghost use Rattle.ps_resolve.specs.Definitions.{IsDefine, AreParameters, IsDefinition, procedure_at};
 
-use crate::expr::{expr, keyword, word};
+use crate::expr::{expr, keyword, symbol, word};
 use crate::program::Unresolved;
 use crate::scope::Scope;
 use crate::words::{is, is_name};
-use ps_base::{Items, Names};
+use ps_base::{Items, Name, Names, Place};
 use ps_datum::{Datum, DatumKind};
-use ps_meaning::{Expr, Keyword, Procedure};
+use ps_plain::{Keyword, Procedure, Write};
 use std::alloc::Global;
 
 // How many parameters a procedure may have.
 const PARAMETERS: u32 = 127;
 
-// A definition whose head was read.
+// A definition whose head was read: its place, the name that it defines and the text of this, the parameters, and the body.
 #[derive(Drop)]
 pub(crate) struct Definition<'a> {
+    pub place: Place,
+    pub number: Name,
     pub name: &'a [u8],
     pub parameters: Names,
     pub body: &'a [Datum],
@@ -62,12 +64,16 @@ pub(crate) fn is_main(names: &Names, form: &Datum) -> bool
     }
 }
 
-// The name that a datum is.
-fn name<'a>(names: &'a Names, datum: &Datum) -> Option<&'a [u8]>
-    ensures { MatchOption result ((w : List ℕ) → (part names.now datum.now).word ≡ Some w → is_name w ≡ false) (λ w. ((part names.now datum.now).word ≡ Some w.now) × (is_name w.now ≡ true)) }
+// The name that a datum is, and its text.
+fn name<'a>(names: &'a Names, datum: &Datum) -> Option<(Name, &'a [u8])>
+    ensures { MatchOption result ((w : List ℕ) → (part names.now datum.now).word ≡ Some w → is_name w ≡ false) (λ r. ((part names.now datum.now).symbol ≡ Some r.0) × ((part names.now datum.now).word ≡ Some r.1.now) × (is_name r.1.now ≡ true)) }
 {
-    let name = word(names, datum)?;
-    if is_name(name) { Some(name) } else { None }
+    let (name, text) = symbol(names, datum)?;
+    if is_name(text) {
+        Some((name, text))
+    } else {
+        None
+    }
 }
 
 // Adds a name that is not there yet.
@@ -91,7 +97,7 @@ fn parameters(alloc: Global, names: &Names, words: &[Datum]) -> Result<Names, Un
 {
     let mut parameters = Names::new(alloc);
     for datum in words {
-        let Some(name) = name(names, datum) else {
+        let Some((_, name)) = name(names, datum) else {
             return Err(Unresolved::NotProgram);
         };
         if parameters.len() >= PARAMETERS {
@@ -114,19 +120,21 @@ pub(crate) fn read_definition<'a>(
     let Some(([first, rest @ ..], body)) = head(names, form) else {
         return Err(Unresolved::NotProgram);
     };
-    let Some(name) = name(names, first) else {
+    let Some((number, name)) = name(names, first) else {
         return Err(Unresolved::NotProgram);
     };
     let parameters = parameters(alloc, names, rest)?;
     Ok(Definition {
+        place: form.place,
+        number,
         name,
         parameters,
         body,
     })
 }
 
-// The expression whose value a form writes as a byte.
-fn write(alloc: Global, scope: &Scope<'_>, datum: &Datum) -> Result<Expr, Unresolved>
+// The byte that a form writes.
+fn write(alloc: Global, scope: &Scope<'_>, datum: &Datum) -> Result<Write, Unresolved>
     ensures { IsRead result ((part scope.now.names.now datum.now).write (scope_of scope.now)) }
 {
     let DatumKind::List(parts) = &datum.kind else {
@@ -138,11 +146,14 @@ fn write(alloc: Global, scope: &Scope<'_>, datum: &Datum) -> Result<Expr, Unreso
     let Some(Keyword::WriteByte) = keyword(scope.names, first) else {
         return Err(Unresolved::NotProgram);
     };
-    expr(alloc, scope, value)
+    Ok(Write {
+        place: datum.place,
+        value: expr(alloc, scope, value)?,
+    })
 }
 
-// The expressions whose values these forms write.
-fn writes(alloc: Global, scope: &Scope<'_>, forms: &[Datum]) -> Result<Items<Expr>, Unresolved>
+// The bytes that these forms write.
+fn writes(alloc: Global, scope: &Scope<'_>, forms: &[Datum]) -> Result<Items<Write>, Unresolved>
     ensures { IsRead result (all_some (map (λ (p : Part). p.write (scope_of scope.now)) (map (part scope.now.names.now) forms.now))) }
 {
     let mut writes = Items::new(alloc);
@@ -152,13 +163,15 @@ fn writes(alloc: Global, scope: &Scope<'_>, forms: &[Datum]) -> Result<Items<Exp
     Ok(writes)
 }
 
-// The procedure with this body.
+// The procedure with this name and body, whose definition stands at a place.
 pub(crate) fn procedure(
     alloc: Global,
     scope: &Scope<'_>,
+    place: Place,
+    name: Name,
     body: &[Datum],
 ) -> Result<Procedure, Unresolved>
-    ensures { IsRead result (procedure_at scope.now.names.now (scope_of scope.now) body.now) }
+    ensures { IsRead result (procedure_at scope.now.names.now place (Some name) (scope_of scope.now) body.now) }
 {
     let Some((last, front)) = body.split_last() else {
         return Err(Unresolved::NotProgram);
@@ -166,6 +179,8 @@ pub(crate) fn procedure(
     let writes = writes(alloc, scope, front)?;
     let value = expr(alloc, scope, last)?;
     Ok(Procedure {
+        place,
+        name,
         parameters: scope.parameters.len(),
         writes,
         value,

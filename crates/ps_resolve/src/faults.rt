@@ -4,8 +4,8 @@ ghost use Rattle.std.specs.Prelude.{◌≡◌, ℕ, suc, ◌≤◌, ◌<◌, ◌
 ghost use Rattle.std.specs.List.{list_any};
 ghost use Rattle.std.specs.Str.{bytes_eq};
 ghost use Rattle.ps_datum.specs.Weight.{weights};
-ghost use Rattle.ps_meaning.specs.Forms.{Head, scope_in};
-ghost use Rattle.ps_meaning.specs.Faults.{flaws, or_else, parameters_names, body_names, shapes_fault, is_main, fault_of};
+ghost use Rattle.ps_plain.specs.Forms.{Head, scope_in};
+ghost use Rattle.ps_plain.specs.Faults.{flaws, or_else, parameters_names, body_names, shapes_fault, is_main, fault_of};
 ghost use Rattle.ps_resolve.specs.Heads.{IsAdded, IsKnown, IsDefine, HasParts, IsHeadOf, HaveHeads, Knows, head_at, head_fault, words_of, names_walk};
 
 use crate::name_faults::{NamesInScope, body_names};

@@ -1,8 +1,8 @@
 //! Names that break a condition. Each function gives the place of the first, in order of the text.
 
 ghost use Rattle.std.specs.Prelude.{◌≡◌, map, slice_get, MatchOption, None, Some};
-ghost use Rattle.ps_meaning.specs.Forms.{keyword_of};
-ghost use Rattle.ps_meaning.specs.Faults.{flaws, word_flaws, exprs_names, variable_names, has_operands, call_names, conditional_names, form_names, behind_names, body_names};
+ghost use Rattle.ps_plain.specs.Forms.{keyword_of};
+ghost use Rattle.ps_plain.specs.Faults.{flaws, word_flaws, exprs_names, variable_names, has_operands, call_names, conditional_names, form_names, behind_names, body_names};
 ghost use Rattle.ps_resolve.specs.NameTables.{scope_of, writes_names};
 
 use crate::shapes::{parts, word};
@@ -10,7 +10,7 @@ use crate::words;
 use crate::words::text;
 use ps_base::{Name, Names, Place};
 use ps_datum::{Datum, DatumKind};
-use ps_meaning::Keyword;
+use ps_plain::Keyword;
 
 // The names that an expression may use: the parameters of the procedure around it, and procedures with their numbers of
 // parameters.

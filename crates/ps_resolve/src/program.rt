@@ -5,12 +5,12 @@ ghost use Rattle.std.specs.List.{AllByRecursion};
 ghost use Rattle.ps_base.specs.Names.{AreDistinct};
 ghost use Rattle.ps_datum.specs.declared.datum.Datum.{Datum};
 ghost use Rattle.ps_datum.specs.Weight.{weights};
-ghost use Rattle.ps_meaning.specs.declared.program.Procedure.{Procedure};
-ghost use Rattle.ps_meaning.specs.declared.program.Program.{Program};
-ghost use Rattle.ps_meaning.specs.Forms.{IsProgram, Head, IsHead, part, main_head, heads_of, names_in, arities_in};
-ghost use Rattle.ps_meaning.specs.Faults.{fault_of};
-ghost use Rattle.ps_meaning.specs.Valid.{IsValid};
-ghost use Rattle.ps_meaning.specs.Size.{program_size};
+ghost use Rattle.ps_plain.specs.declared.program.Procedure.{Procedure};
+ghost use Rattle.ps_plain.specs.declared.program.Program.{Program};
+ghost use Rattle.ps_plain.specs.Forms.{IsProgram, Head, IsHead, part, main_head, heads_of, names_in, arities_in};
+ghost use Rattle.ps_plain.specs.Faults.{fault_of};
+ghost use Rattle.ps_plain.specs.Valid.{IsValid};
+ghost use Rattle.ps_plain.specs.Size.{program_size};
 ghost use Rattle.ps_resolve.specs.Refusals.{IsUnresolved, IsRefusalOf};
 ghost use Rattle.ps_resolve.specs.Definitions.{IsAround, AreDefinitions, AreProcedures, heads_in};
 
@@ -19,7 +19,7 @@ use crate::faults::fault;
 use crate::scope::Scope;
 use ps_base::{Fault, Items, Names, NoMemory, Refusal};
 use ps_datum::Datum;
-use ps_meaning::{Procedure, Program, faults_tell_programs};
+use ps_plain::{Procedure, Program, faults_tell_programs};
 use std::alloc::{AllocError, Global};
 
 // Why data were not read as a part of a program.
@@ -148,7 +148,13 @@ fn procedures(
             procedures: &defined,
             arities: arities.as_slice(),
         };
-        procedures.push(procedure(alloc, &scope, definition.body)?)?;
+        procedures.push(procedure(
+            alloc,
+            &scope,
+            definition.place,
+            definition.number,
+            definition.body,
+        )?)?;
     }
     Ok(procedures)
 }

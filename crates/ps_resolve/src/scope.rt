@@ -1,12 +1,12 @@
 //! What names stand for.
 
 ghost use Rattle.std.specs.Prelude.{◌≡◌, slice_get, Some};
-ghost use Rattle.ps_meaning.specs.Forms.{word_part, with_arity, called};
+ghost use Rattle.ps_plain.specs.Forms.{word_part, with_arity, called};
 ghost use Rattle.ps_resolve.specs.Values.{scope_of};
 
 use crate::words::text;
-use ps_base::{Name, Names};
-use ps_meaning::Expr;
+use ps_base::{Name, Names, Place};
+use ps_plain::Expr;
 
 // Where an expression stands: the names in the data, the parameters of the procedure around it, and the program's procedures
 // with their numbers of parameters.
@@ -18,12 +18,12 @@ pub(crate) struct Scope<'a> {
     pub arities: &'a [u32],
 }
 
-// The parameter that a name is which stands alone.
-pub(crate) fn parameter(scope: &Scope<'_>, name: Name) -> Option<Expr>
-    ensures { result ≡ (word_part (slice_get scope.now.names.now name.0)).expr (scope_of scope.now) }
+// The parameter that a name is which stands alone at a place.
+pub(crate) fn parameter(scope: &Scope<'_>, place: Place, name: Name) -> Option<Expr>
+    ensures { result ≡ (word_part place name (slice_get scope.now.names.now name.0)).expr (scope_of scope.now) }
 {
     match scope.parameters.find(text(scope.names, name)?) {
-        Some(Name(number)) => Some(Expr::Parameter(number)),
+        Some(Name(number)) => Some(Expr::Parameter(place, number)),
         None => None,
     }
 }

@@ -6,18 +6,25 @@ ghost use Rattle.ps_datum.specs.Weight.{weight, weights};
 use crate::*;
 use ps_base::{Boxed, Fault, Items, Name, Names, NoMemory, Place, Refusal};
 use ps_datum::{Datum, DatumKind};
-use ps_meaning::{Comparison, Expr, Operator, Program};
+use ps_plain::{Comparison, Expr, Operator, Program};
 use std::alloc::{AllocError, Global};
 use std::test::Fail;
 
-// A datum. No test looks at its place.
-fn datum(kind: DatumKind) -> Datum {
-    let place = Place {
+// The place of a column in a text of one line.
+fn place(column: u32) -> Place {
+    Place {
         file: 0,
         line: 1,
-        column: 1,
-    };
-    Datum { place, kind }
+        column,
+    }
+}
+
+// A datum at a column.
+fn datum(column: u32, kind: DatumKind) -> Datum {
+    Datum {
+        place: place(column),
+        kind,
+    }
 }
 
 // The symbol of a word.
@@ -41,38 +48,52 @@ fn kind(names: &mut Names, word: &[u8]) -> Result<DatumKind, Fail> {
     symbol(names, word)
 }
 
-// Ends the word that was read so far.
-fn end_word(names: &mut Names, word: &mut Vec<u8>, data: &mut Items<Datum>) -> Result<(), Fail> {
+// Ends the word that was read so far, which begins at a column.
+fn end_word(
+    names: &mut Names,
+    column: u32,
+    word: &mut Vec<u8>,
+    data: &mut Items<Datum>,
+) -> Result<(), Fail> {
     if !word.is_empty() {
-        data.push(datum(kind(names, word.as_slice())?))?;
+        data.push(datum(column, kind(names, word.as_slice())?))?;
         word.clear();
     }
     Ok(())
 }
 
-// The data that a text of integers, symbols and brackets writes.
+// The data that a text of integers, symbols and brackets writes in one line.
 fn data(alloc: Global, names: &mut Names, text: &[u8]) -> Result<Items<Datum>, Fail> {
     let mut outer = Vec::new(alloc);
     let mut inner = Items::new(alloc);
     let mut word = Vec::new(alloc);
+    let mut start: u32 = 0;
+    let mut column: u32 = 0;
     for b in text {
+        column = column.saturating_add(1);
         match b {
             b'(' => {
-                end_word(names, &mut word, &mut inner)?;
-                outer.push(inner)?;
+                end_word(names, start, &mut word, &mut inner)?;
+                outer.push((column, inner))?;
                 inner = Items::new(alloc);
             }
             b')' => {
-                end_word(names, &mut word, &mut inner)?;
-                let list = datum(DatumKind::List(inner));
-                inner = outer.pop().unwrap_or(Items::new(alloc));
+                end_word(names, start, &mut word, &mut inner)?;
+                let (bracket, before) = outer.pop().unwrap_or((0, Items::new(alloc)));
+                let list = datum(bracket, DatumKind::List(inner));
+                inner = before;
                 inner.push(list)?;
             }
-            b' ' => end_word(names, &mut word, &mut inner)?,
-            _ => word.push(*b)?,
+            b' ' => end_word(names, start, &mut word, &mut inner)?,
+            _ => {
+                if word.is_empty() {
+                    start = column;
+                }
+                word.push(*b)?;
+            }
         }
     }
-    end_word(names, &mut word, &mut inner)?;
+    end_word(names, start, &mut word, &mut inner)?;
     Ok(inner)
 }
 
@@ -107,13 +128,25 @@ fn weights(forms: &[Datum]) -> Option<u32>
     Some(sum)
 }
 
-// Writes an expression. A parameter is `x` with its number, and a procedure `f` with its number.
+// Writes the column of a place, and a colon.
+fn put_column(out: &mut String, place: Place) -> Result<(), AllocError> {
+    write!(out, "{}:", place.column)
+}
+
+// Writes an expression, each part behind its column. A parameter is `x` with its number, and a procedure `f` with its number.
 #[cycle(put_expr)]
 fn put_expr(out: &mut String, expr: &Expr) -> Result<(), AllocError> {
     match expr {
-        Expr::Integer(i) => write!(out, "{i}"),
-        Expr::Parameter(number) => write!(out, "x{number}"),
-        Expr::Operation(operator, a, b) => {
+        Expr::Integer(place, i) => {
+            put_column(out, *place)?;
+            write!(out, "{i}")
+        }
+        Expr::Parameter(place, number) => {
+            put_column(out, *place)?;
+            write!(out, "x{number}")
+        }
+        Expr::Operation(place, operator, a, b) => {
+            put_column(out, *place)?;
             out.push_str(match operator {
                 Operator::Add => "(+",
                 Operator::Subtract => "(-",
@@ -123,10 +156,13 @@ fn put_expr(out: &mut String, expr: &Expr) -> Result<(), AllocError> {
             put_next(out, b.get())?;
             out.push_str(")")
         }
-        Expr::If(comparison, a, b, c, d) => {
+        Expr::If(place, at, comparison, a, b, c, d) => {
+            put_column(out, *place)?;
+            out.push_str("(if ")?;
+            put_column(out, *at)?;
             out.push_str(match comparison {
-                Comparison::Less => "(if (<",
-                Comparison::Equal => "(if (=",
+                Comparison::Less => "(<",
+                Comparison::Equal => "(=",
             })?;
             put_next(out, a.get())?;
             put_next(out, b.get())?;
@@ -135,14 +171,20 @@ fn put_expr(out: &mut String, expr: &Expr) -> Result<(), AllocError> {
             put_next(out, d.get())?;
             out.push_str(")")
         }
-        Expr::Call(procedure, operands) => {
-            write!(out, "(f{procedure}")?;
+        Expr::Call(place, at, procedure, operands) => {
+            put_column(out, *place)?;
+            out.push_str("(")?;
+            put_column(out, *at)?;
+            write!(out, "f{procedure}")?;
             for operand in operands.as_slice() {
                 put_next(out, operand)?;
             }
             out.push_str(")")
         }
-        Expr::ReadByte => out.push_str("(read-byte)"),
+        Expr::ReadByte(place) => {
+            put_column(out, *place)?;
+            out.push_str("(read-byte)")
+        }
     }
 }
 
@@ -153,14 +195,29 @@ fn put_next(out: &mut String, expr: &Expr) -> Result<(), AllocError> {
     put_expr(out, expr)
 }
 
-// A program, each procedure in brackets with its number of parameters.
-fn shown(alloc: Global, program: &Program) -> Result<String, AllocError> {
+// Writes the text of a name.
+fn put_name(out: &mut String, names: &Names, name: Name) -> Result<(), AllocError> {
+    if name.0 < names.len() {
+        out.push_str(str::from_utf8(names.text(name)).unwrap_or("?"))
+    } else {
+        out.push_str("?")
+    }
+}
+
+// A program, each procedure in brackets behind its column, with its name and its number of parameters. A write is `!`.
+fn shown(alloc: Global, names: &Names, program: &Program) -> Result<String, AllocError> {
     let mut out = String::new(alloc);
     for procedure in program.procedures.as_slice() {
-        write!(out, "[{}", procedure.parameters)?;
-        for value in procedure.writes.as_slice() {
-            out.push_str(" !")?;
-            put_expr(&mut out, value)?;
+        put_column(&mut out, procedure.place)?;
+        out.push_str("[")?;
+        put_name(&mut out, names, procedure.name)?;
+        write!(out, " {}", procedure.parameters)?;
+        for write in procedure.writes.as_slice() {
+            out.push_str(" ")?;
+            put_column(&mut out, write.place)?;
+            out.push_str("(!")?;
+            put_next(&mut out, &write.value)?;
+            out.push_str(")")?;
         }
         put_next(&mut out, &procedure.value)?;
         out.push_str("]")?;
@@ -171,7 +228,7 @@ fn shown(alloc: Global, program: &Program) -> Result<String, AllocError> {
 // Each row is a text, and the program that it is; a row without a bar is the text of none.
 
 // Definitions, of which one is that of `main`, without parameters, anywhere.
-const PROGRAMS: &[u8] = b"(define (main) 1)|[0 1]\n\
+const PROGRAMS: &[u8] = b"(define (main) 1)|1:[main 0 16:1]\n\
 \n\
 1\n\
 ()\n\
@@ -187,27 +244,28 @@ const PROGRAMS: &[u8] = b"(define (main) 1)|[0 1]\n\
 (define (main) 1) (define (main) 2)\n\
 (define (main) 1) (define (main x) 2)\n\
 (define (main x) 1) (define (main) 2)\n\
-(define (main) (g 1)) (define (f) 2) (define (g x) (f))|[0 (f2 1)][0 2][1 (f1)]\n\
-(define (f) 2) (define (main) (g 1)) (define (g x) (f))|[0 (f2 1)][0 2][1 (f1)]\n\
-(define (f) 2) (define (g x) (f)) (define (main) (g 1))|[0 (f2 1)][0 2][1 (f1)]\n\
-(define (f) (main)) (define (main) (f))|[0 (f1)][0 (f0)]\n\
-(define (even n) (if (= n 0) 1 (odd (- n 1)))) (define (odd n) (if (= n 0) 0 (even (- n 1)))) (define (main) (even 10))|[0 (f1 10)][1 (if (= x0 0) 1 (f2 (- x0 1)))][1 (if (= x0 0) 0 (f1 (- x0 1)))]";
+(define (main) (g 1)) (define (f) 2) (define (g x) (f))|1:[main 0 16:(17:f2 19:1)]23:[f 0 35:2]38:[g 1 52:(53:f1)]\n\
+(define (f) 2) (define (main) (g 1)) (define (g x) (f))|16:[main 0 31:(32:f2 34:1)]1:[f 0 13:2]38:[g 1 52:(53:f1)]\n\
+(define (f) 2) (define (g x) (f)) (define (main) (g 1))|35:[main 0 50:(51:f2 53:1)]1:[f 0 13:2]16:[g 1 30:(31:f1)]\n\
+(define (f) (main)) (define (main) (f))|21:[main 0 36:(37:f1)]1:[f 0 13:(14:f0)]\n\
+(define (even n) (if (= n 0) 1 (odd (- n 1)))) (define (odd n) (if (= n 0) 0 (even (- n 1)))) (define (main) (even 10))|95:[main 0 110:(111:f1 116:10)]1:[even 1 18:(if 22:(= 25:x0 27:0) 30:1 32:(33:f2 37:(- 40:x0 42:1)))]48:[odd 1 64:(if 68:(= 71:x0 73:0) 76:0 78:(79:f1 84:(- 87:x0 89:1)))]";
 
 // Names are different, and stand for something.
 const NAMES: &[u8] = b"(define (main) 1) (define (f) 1) (define (f) 2)\n\
 (define (main) 1) (define (f x x) 1)\n\
 (define (main) 1) (define (f x y x) 1)\n\
-(define (main) 1) (define (f x) 1) (define (g x) x)|[0 1][1 1][1 x0]\n\
-(define (main) 1) (define (f f main) (+ f main))|[0 1][2 (+ x0 x1)]\n\
+(define (main) 1) (define (f x) 1) (define (g x) x)|1:[main 0 16:1]19:[f 1 33:1]36:[g 1 50:x0]\n\
+(define (main) 1) (define (f f main) (+ f main))|1:[main 0 16:1]19:[f 2 38:(+ 41:x0 43:x1)]\n\
 (define (main) x)\n\
 (define (main) main)\n\
 (define (main) 1) (define (f x) y)\n\
-(define (main) 1) (define (f x y z) (- z (- y x)))|[0 1][3 (- x2 (- x1 x0))]\n\
+(define (main) 1) (define (f x y z) (- z (- y x)))|1:[main 0 16:1]19:[f 3 37:(- 40:x2 42:(- 45:x1 47:x0))]\n\
 (define (main) (f))\n\
 (define (main) 1) (define (f x) (x))\n\
 (define (main) 1) (define (f g) (g 1)) (define (g x) x)\n\
-(define (main) 1) (define (f) (g 1)) (define (g x) x)|[0 1][0 (f2 1)][1 x0]\n\
-(define (main) (f 1 2)) (define (f x y) x)|[0 (f1 1 2)][2 x0]\n\
+(define (main) 1) (define (f) (g 1)) (define (g x) x)|1:[main 0 16:1]19:[f 0 31:(32:f2 34:1)]38:[g 1 52:x0]\n\
+(define (main) (f 1 2)) (define (f x y) x)|1:[main 0 16:(17:f1 19:1 21:2)]25:[f 2 41:x0]\n\
+(define (main) ( f 1)) (define (f x) x)|1:[main 0 16:(18:f1 20:1)]24:[f 1 38:x0]\n\
 (define (main) (f 1)) (define (f x y) x)\n\
 (define (main) (f 1 2 3)) (define (f x y) x)\n\
 (define (main) (f 1 y)) (define (f x y) x)\n\
@@ -216,9 +274,9 @@ const NAMES: &[u8] = b"(define (main) 1) (define (f) 1) (define (f) 2)\n\
 
 // Keywords have their own forms, and are the names of nothing.
 const KEYWORDS: &[u8] =
-    b"(define (main) (write-byte 1) (write-byte (read-byte)) (* 2 (+ 3 (- 4 5))))|[0 !1 !(read-byte) (* 2 (+ 3 (- 4 5)))]\n\
-(define (main) (if (< 1 2) 3 4))|[0 (if (< 1 2) 3 4)]\n\
-(define (main) (if (= 1 2) 3 4))|[0 (if (= 1 2) 3 4)]\n\
+    b"(define (main) (write-byte 1) (write-byte (read-byte)) (* 2 (+ 3 (- 4 5))))|1:[main 0 16:(! 28:1) 31:(! 43:(read-byte)) 56:(* 59:2 61:(+ 64:3 66:(- 69:4 71:5)))]\n\
+(define (main) (if (< 1 2) 3 4))|1:[main 0 16:(if 20:(< 23:1 25:2) 28:3 30:4)]\n\
+(define (main) (if (= 1 2) 3 4))|1:[main 0 16:(if 20:(= 23:1 25:2) 28:3 30:4)]\n\
 (define (main) (if 1 3 4))\n\
 (define (main) (if (+ 1 2) 3 4))\n\
 (define (main) (if (< 1 2) 3))\n\
@@ -246,7 +304,7 @@ const KEYWORDS: &[u8] =
 
 // Symbols and integers.
 const WORDS: &[u8] =
-    b"(define (main) 1) (define (->x ... a.b@+9 $%&*/:<=>?^_~! ->) a.b@+9)|[0 1][4 x1]\n\
+    b"(define (main) 1) (define (->x ... a.b@+9 $%&*/:<=>?^_~! ->) a.b@+9)|1:[main 0 16:1]19:[->x 4 62:x1]\n\
 (define (main) 1) (define (f 7) 7)\n\
 (define (main) 1) (define (7 x) x)\n\
 (define 7 1) (define (main) 1)\n\
@@ -255,8 +313,8 @@ const WORDS: &[u8] =
 (define (main) (if 7 1 2))\n\
 (define (main) (if (7 1 2) 1 2))\n\
 (define (main) (7 1) 2)\n\
-(define (main) 9223372036854775807)|[0 9223372036854775807]\n\
-(define (main) -9223372036854775808)|[0 -9223372036854775808]\n\
+(define (main) 9223372036854775807)|1:[main 0 16:9223372036854775807]\n\
+(define (main) -9223372036854775808)|1:[main 0 16:-9223372036854775808]\n\
 (define (main) +)";
 
 // The text of a row, and what it is.
@@ -267,17 +325,25 @@ fn halves(row: &[u8]) -> (&[u8], &[u8]) {
     }
 }
 
-// The program that forms are, as `shown` writes it, or nothing where they are none.
-fn resolved_forms(alloc: Global, names: &Names, forms: &[Datum]) -> Result<String, Fail> {
+// The program that forms are, if they are one.
+fn program(alloc: Global, names: &Names, forms: &[Datum]) -> Result<Option<Program>, Fail> {
     let weight = weights(forms).ok_or("large data")?;
     if weight == u32::MAX {
         return Err("large data".into());
     }
     match resolve(alloc, names, forms) {
-        Ok(program) => Ok(shown(alloc, &program)?),
-        Err(Refusal::Fault(Fault::NotBuilt(_))) => Ok(String::new(alloc)),
+        Ok(program) => Ok(Some(program)),
+        Err(Refusal::Fault(Fault::NotBuilt(_))) => Ok(None),
         Err(Refusal::Fault(_)) => Err("another fault".into()),
         Err(Refusal::NoMemory) => Err(AllocError.into()),
+    }
+}
+
+// The program that forms are, as `shown` writes it, or nothing where they are none.
+fn resolved_forms(alloc: Global, names: &Names, forms: &[Datum]) -> Result<String, Fail> {
+    match program(alloc, names, forms)? {
+        Some(program) => Ok(shown(alloc, names, &program)?),
+        None => Ok(String::new(alloc)),
     }
 }
 
@@ -319,7 +385,7 @@ fn with_parameters(alloc: Global, count: u32, last: &str) -> Result<String, Allo
 #[test]
 fn counts_parameters(rt: HostRuntime) -> Result<(), Fail> {
     for (count, last, want) in [
-        (127, "last", "[0 1][127 x126]"),
+        (127, "last", "1:[main 0 16:1]19:[f 127 558:x126]"),
         (128, "last", ""),
         (127, "x1", ""),
     ] {
@@ -332,13 +398,13 @@ fn counts_parameters(rt: HostRuntime) -> Result<(), Fail> {
 // What `(define (main) D)` is, where D is a datum of this kind.
 fn resolved_value(alloc: Global, mut names: Names, value: DatumKind) -> Result<String, Fail> {
     let mut head = Items::new(alloc);
-    head.push(datum(symbol(&mut names, b"main")?))?;
+    head.push(datum(10, symbol(&mut names, b"main")?))?;
     let mut form = Items::new(alloc);
-    form.push(datum(symbol(&mut names, b"define")?))?;
-    form.push(datum(DatumKind::List(head)))?;
-    form.push(datum(value))?;
+    form.push(datum(2, symbol(&mut names, b"define")?))?;
+    form.push(datum(9, DatumKind::List(head)))?;
+    form.push(datum(16, value))?;
     let mut forms = Items::new(alloc);
-    forms.push(datum(DatumKind::List(form)))?;
+    forms.push(datum(1, DatumKind::List(form)))?;
     resolved_forms(alloc, &names, forms.as_slice())
 }
 
@@ -347,7 +413,7 @@ fn other_data_are_no_expressions(rt: HostRuntime) -> Result<(), Fail> {
     let alloc = rt.alloc();
     let mut names = Names::new(alloc);
     let front = data(alloc, &mut names, b"+ 1")?;
-    let last = Boxed::new(alloc, datum(DatumKind::Integer(2)))?;
+    let last = Boxed::new(alloc, datum(20, DatumKind::Integer(2)))?;
     let dotted = DatumKind::Dotted(front, last);
     assert_eq!(rt; resolved_value(alloc, names, dotted)?.as_str(), "");
     let mut names = Names::new(alloc);
@@ -359,7 +425,7 @@ fn other_data_are_no_expressions(rt: HostRuntime) -> Result<(), Fail> {
         ""
     );
     for (value, want) in [
-        (DatumKind::Integer(7), "[0 7]"),
+        (DatumKind::Integer(7), "1:[main 0 16:7]"),
         (DatumKind::Boolean(true), ""),
         (DatumKind::Char(55), ""),
         (DatumKind::Symbol(Name(0)), ""),
@@ -370,5 +436,45 @@ fn other_data_are_no_expressions(rt: HostRuntime) -> Result<(), Fail> {
             want
         );
     }
+    Ok(())
+}
+
+// The program that a text is.
+fn program_of(alloc: Global, names: &mut Names, text: &[u8]) -> Result<Program, Fail> {
+    let forms = data(alloc, names, text)?;
+    Ok(program(alloc, names, forms.as_slice())?.ok_or("no program")?)
+}
+
+// A result without 64 bits is told at the place of its operation.
+#[test]
+fn an_operation_has_the_place_of_its_bracket(rt: HostRuntime) -> Result<(), Fail> {
+    let mut names = Names::new(rt.alloc());
+    let text = b"(define (main) (- 1  (* 9223372036854775807 2)))";
+    let program = program_of(rt.alloc(), &mut names, text)?;
+    let main = program.procedures.as_slice().first().ok_or("no procedure")?;
+    let Expr::Operation(difference, _, _, right) = &main.value else {
+        return Err("no operation".into());
+    };
+    let Expr::Operation(product, _, _, _) = right.get() else {
+        return Err("no operation".into());
+    };
+    assert_eq!(rt; *difference, place(16));
+    assert_eq!(rt; *product, place(22));
+    Ok(())
+}
+
+#[test]
+fn a_procedure_has_its_name_and_place(rt: HostRuntime) -> Result<(), Fail> {
+    let mut names = Names::new(rt.alloc());
+    // The names in order of the text: define, f, x, main.
+    let text = b"(define (f x) x) (define (main) (f 1))";
+    let program = program_of(rt.alloc(), &mut names, text)?;
+    let [main, f] = program.procedures.as_slice() else {
+        return Err("another number of procedures".into());
+    };
+    assert_eq!(rt; main.name, Name(3));
+    assert_eq!(rt; main.place, place(18));
+    assert_eq!(rt; f.name, Name(1));
+    assert_eq!(rt; f.place, place(1));
     Ok(())
 }

@@ -2,10 +2,10 @@
 
 ghost use Rattle.std.specs.Prelude.{◌≡◌, slice_get, MatchOption, None, Some};
 ghost use Rattle.std.specs.Str.{bytes_eq};
-ghost use Rattle.ps_meaning.specs.Forms.{is_name, keyword_of};
+ghost use Rattle.ps_plain.specs.Forms.{is_name, keyword_of};
 
 use ps_base::{Name, Names};
-use ps_meaning::{Comparison, Keyword, Operator};
+use ps_plain::{Comparison, Keyword, Operator};
 
 // The text of a name, where the table has it.
 pub(crate) fn text(names: &Names, name: Name) -> Option<&[u8]>

@@ -8,10 +8,10 @@ use Rattle.ps_datum.specs.declared.datum.Datum.{Datum}
 use Rattle.ps_read.specs.Breaches.{FirstBreach}
 use Rattle.ps_read.specs.Lexical.{tokens_of}
 use Rattle.ps_read.specs.Reading.{Reads}
-use Rattle.ps_meaning.specs.declared.program.Program.{Program}
-use Rattle.ps_meaning.specs.Faults.{fault_of}
-use Rattle.ps_meaning.specs.Forms.{IsProgram}
-use Rattle.ps_meaning.specs.Meaning.{Source}
+use Rattle.ps_plain.specs.declared.program.Program.{Program}
+use Rattle.ps_plain.specs.Faults.{fault_of}
+use Rattle.ps_plain.specs.Forms.{IsProgram}
+use Rattle.ps_plain.specs.Meaning.{Source}
 use Rattle.c_ast.specs.declared.unit.CUnit.{CUnit}
 use Rattle.c_ast.specs.Text.{CText}
 use Rattle.c_ast.specs.WellFormed.{IsWellFormed}

@@ -3,7 +3,7 @@ use Rattle.std.specs.Prelude.{◌++◌}
 use Rattle.c_emit.specs.declared.unit.Code.{Code}
 use Rattle.c_emit.specs.Code.{Coded, coded_node, coded}
 use Rattle.c_emit.proofs.Building.{built-if}
-use Rattle.ps_meaning.proofs.Trees.{fold-if}
+use Rattle.ps_plain.proofs.Trees.{fold-if}
 use Rattle.c_emit.proofs.unit.+build_expr.Goals as goal
 
 pub build_expr-returns-in_ok-finish-in-If-clause-statements : goal.build_expr-returns-in_ok-finish-in-If-clause-statements
@@ -14,7 +14,7 @@ build_expr-returns-in_ok-finish-in-If-clause-statements t c =
     let b = coded c.get-in-If-2.result.now in
     let d = coded c.get-in-If-3.result.now in
     let f = coded c.get-in-If-4.result.now in
-    let whole = ap coded c.in-If.is ∙ fold-if coded_node _ _ _ _ _ in
+    let whole = ap coded c.in-If.is ∙ fold-if coded_node _ _ _ _ _ _ _ in
     let h = built-if _ a b f d _ _ _ _ _ _ _ _ _ _ _ _ _ _ _ _ _ _ _ _ _ _ _ _ _ _ _ _ _ _ _
     c.in_ok-x-in-If.ensures.statements c.in_ok-x-in-If.ensures.variables c.in_ok-x-in-If.ensures.labels c.in_ok-x-in-If.ensures.atom
     c.in_ok-y-in-If.ensures.statements c.in_ok-y-in-If.ensures.variables c.in_ok-y-in-If.ensures.labels c.in_ok-y-in-If.ensures.atom

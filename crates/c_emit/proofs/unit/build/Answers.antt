@@ -1,6 +1,6 @@
 use Rattle.std.proofs.Common.{sym, subst}
 use Rattle.byte_store.specs.Agree.{Agree, Shallow}
-use Rattle.ps_meaning.specs.Meaning.{Source}
+use Rattle.ps_plain.specs.Meaning.{Source}
 use Rattle.c_ast.specs.WellFormed.{IsWellFormed}
 use Rattle.c_meaning.specs.Machine.{CRun}
 use Rattle.c_emit.proofs.Formed.{well-formed}

@@ -20,7 +20,7 @@ returns-then-len-ge-PARAMETERS-clause-unread c = λ u full all.
 pub returns-in_err-add_new-clause-unread : goal.returns-in_err-add_new-clause-unread
 returns-in_err-add_new-clause-unread c = λ u full all.
     let is : IsNotProgram c.in_err-add_new.field-0.0 = search rules in
-    c.in_err-add_new.ensures.refused is (new_parameter c.args.names.now c.args.words.now c.loop-datum.datum-index c.datum-item.result c.loop-datum-test.true c.datum-item.is c.loop-datum.parameters c.loop-datum.invariant full all c.in-Some.name.now c.in-Some.ensures.0)
+    c.in_err-add_new.ensures.refused is (new_parameter c.args.names.now c.args.words.now c.loop-datum.datum-index c.datum-item.result c.loop-datum-test.true c.datum-item.is c.loop-datum.parameters c.loop-datum.invariant full all c.in-Some.name.now c.in-Some.ensures.1)
 
 pub loop-datum-preserved : goal.loop-datum-preserved
 loop-datum-preserved c =
@@ -28,4 +28,4 @@ loop-datum-preserved c =
     subst
     (AreParameters c.args.names.now (take (c.loop-datum.datum-index + 1) c.args.words.now))
     (sym more)
-    (one_parameter c.args.names.now c.args.words.now c.loop-datum.datum-index c.datum-item.result c.loop-datum-test.true c.datum-item.is c.loop-datum.parameters c.loop-datum.invariant c.in-Some.name.now c.in-Some.ensures.0 c.in-Some.ensures.1 (omega arith) (subst AreDistinct more c.in_ok-add_new.ensures.is_distinct))
+    (one_parameter c.args.names.now c.args.words.now c.loop-datum.datum-index c.datum-item.result c.loop-datum-test.true c.datum-item.is c.loop-datum.parameters c.loop-datum.invariant c.in-Some.name.now c.in-Some.ensures.1 c.in-Some.ensures.2 (omega arith) (subst AreDistinct more c.in_ok-add_new.ensures.is_distinct))

@@ -1,5 +1,5 @@
 use Rattle.std.proofs.Common.{rules, ap, ◌∙◌, sym, Some, arith}
-use Rattle.ps_meaning.specs.Forms.{Part, part, conditional_by}
+use Rattle.ps_plain.specs.Forms.{Part, part, conditional_by}
 use Rattle.ps_resolve.specs.Values.{scope_of}
 use Rattle.ps_resolve.proofs.Bodies.{conditional_is}
 use Rattle.ps_resolve.proofs.Options.{one_more}
@@ -25,6 +25,6 @@ form-returns-in-Some-ReadByte t c =
 
 pub conditional-returns : goal.conditional-returns
 conditional-returns t c =
-    let is = conditional_is c.args.scope.now.names.now (scope_of c.args.scope.now) c.args.operands.now c.t-item.result c.c-item.result c.d-item.result (omega arith) c.t-item.is c.c-item.is c.d-item.is in
-    let all = is ∙ (λ i. conditional_by (c.in_ok-comparison.ensures.by i) (c.in_ok-c.ensures.by i) (c.in_ok-d.ensures.by i)) in
+    let is = conditional_is c.args.scope.now.names.now (scope_of c.args.scope.now) c.args.place c.args.operands.now c.t-item.result c.c-item.result c.d-item.result (omega arith) c.t-item.is c.c-item.is c.d-item.is in
+    let all = is ∙ (λ i. conditional_by c.args.place (c.in_ok-at.ensures.by i) (c.in_ok-c.ensures.by i) (c.in_ok-d.ensures.by i)) in
     record { by = cc (all, c.in_ok-left.ensures, c.in_ok-right.ensures, c.in_ok-c-2.ensures, c.in_ok-d-2.ensures) }

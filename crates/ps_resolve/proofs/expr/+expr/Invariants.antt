@@ -1,5 +1,5 @@
 use Rattle.std.proofs.Common.{◌≡◌, map, take, Some}
-use Rattle.ps_meaning.specs.Forms.{Part, part, all_some}
+use Rattle.ps_plain.specs.Forms.{Part, part, all_some}
 use Rattle.ps_resolve.specs.Values.{scope_of}
 use Rattle.ps_resolve.proofs.expr.+expr.Given as goal
 

@@ -1,5 +1,5 @@
 use Rattle.std.proofs.Common.{◌≡◌, ◌≤◌, List, [], length, drop}
-use Rattle.ps_meaning.specs.Forms.{Head}
+use Rattle.ps_plain.specs.Forms.{Head}
 use Rattle.ps_resolve.specs.Heads.{Knows, names_walk}
 use Rattle.ps_resolve.proofs.faults.names_fault.Given as goal
 

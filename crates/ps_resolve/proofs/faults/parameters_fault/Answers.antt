@@ -1,5 +1,5 @@
 use Rattle.std.proofs.Common.{map, arith}
-use Rattle.ps_meaning.specs.Faults.{flaws, parameters_names}
+use Rattle.ps_plain.specs.Faults.{flaws, parameters_names}
 use Rattle.std.proofs.Common.{[]}
 use Rattle.ps_resolve.proofs.FaultParameters.{next_fault, next_words, next_few}
 use Rattle.ps_resolve.proofs.faults.parameters_fault.Goals as goal

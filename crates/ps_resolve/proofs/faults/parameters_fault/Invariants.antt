@@ -1,5 +1,5 @@
 use Rattle.std.proofs.Common.{◌≡◌, ℕ, ◌≤◌, List, [], map, length, take, drop, Some}
-use Rattle.ps_meaning.specs.Faults.{flaws, parameters_names}
+use Rattle.ps_plain.specs.Faults.{flaws, parameters_names}
 use Rattle.ps_resolve.specs.Heads.{words_of}
 use Rattle.ps_resolve.proofs.faults.parameters_fault.Given as goal
 

@@ -1,5 +1,5 @@
 use Rattle.std.proofs.Common.{◌≡◌, map, drop}
-use Rattle.ps_meaning.specs.Faults.{flaws, exprs_names}
+use Rattle.ps_plain.specs.Faults.{flaws, exprs_names}
 use Rattle.ps_resolve.specs.NameTables.{scope_of}
 use Rattle.ps_resolve.proofs.name_faults.+names.Given as goal
 

@@ -1,5 +1,5 @@
 use Rattle.std.proofs.Common.{sym, ap, ◌∙◌}
-use Rattle.ps_meaning.specs.Faults.{flaws, or_else}
+use Rattle.ps_plain.specs.Faults.{flaws, or_else}
 use Rattle.ps_resolve.specs.NameTables.{scope_of}
 use Rattle.ps_resolve.proofs.FaultBodies.{body_names_are}
 use Rattle.ps_resolve.proofs.name_faults.body_names.Goals as goal

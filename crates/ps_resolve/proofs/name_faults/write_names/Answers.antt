@@ -1,5 +1,5 @@
 use Rattle.std.proofs.Common.{sym, ap, ◌∙◌}
-use Rattle.ps_meaning.specs.Faults.{Flaws}
+use Rattle.ps_plain.specs.Faults.{Flaws}
 use Rattle.ps_resolve.specs.NameTables.{scope_of}
 use Rattle.ps_resolve.proofs.name_faults.write_names.Goals as goal
 

@@ -1,5 +1,5 @@
 use Rattle.std.proofs.Common.{◌≡◌, map, drop}
-use Rattle.ps_meaning.specs.Faults.{flaws, expr_shapes}
+use Rattle.ps_plain.specs.Faults.{flaws, expr_shapes}
 use Rattle.ps_resolve.proofs.shapes.+shapes.Given as goal
 
 -- the search of what is left gives the same

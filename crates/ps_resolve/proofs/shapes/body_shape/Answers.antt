@@ -1,5 +1,5 @@
 use Rattle.std.proofs.Common.{sym, ap, ◌∙◌}
-use Rattle.ps_meaning.specs.Faults.{flaws, or_else}
+use Rattle.ps_plain.specs.Faults.{flaws, or_else}
 use Rattle.ps_resolve.proofs.FaultBodies.{body_is}
 use Rattle.ps_resolve.proofs.shapes.body_shape.Goals as goal
 

@@ -1,5 +1,5 @@
 use Rattle.std.proofs.Common.{sym, ap, ◌∙◌}
-use Rattle.ps_meaning.specs.Faults.{Flaws}
+use Rattle.ps_plain.specs.Faults.{Flaws}
 use Rattle.ps_resolve.proofs.shapes.definition_shape.Goals as goal
 
 pub returns-in-None : goal.returns-in-None

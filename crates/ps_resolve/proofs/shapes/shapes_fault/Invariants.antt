@@ -1,5 +1,5 @@
 use Rattle.std.proofs.Common.{◌≡◌, drop}
-use Rattle.ps_meaning.specs.Faults.{shapes_fault}
+use Rattle.ps_plain.specs.Faults.{shapes_fault}
 use Rattle.ps_resolve.proofs.shapes.shapes_fault.Given as goal
 
 -- the search of what is left gives the same

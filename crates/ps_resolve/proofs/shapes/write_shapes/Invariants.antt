@@ -1,5 +1,5 @@
 use Rattle.std.proofs.Common.{◌≡◌, map, drop}
-use Rattle.ps_meaning.specs.Faults.{flaws}
+use Rattle.ps_plain.specs.Faults.{flaws}
 use Rattle.ps_resolve.specs.Kinds.{write_shapes}
 use Rattle.ps_resolve.proofs.shapes.write_shapes.Given as goal
 

@@ -1,5 +1,0 @@
-use Rattle.ps_meaning.proofs.Programs.{one_program}
-use Rattle.ps_meaning.proofs.laws.data_have_one_program.Goals as goal
-
-pub returns : goal.returns
-returns c = one_program

@@ -1,5 +1,0 @@
-use Rattle.ps_meaning.proofs.FaultsFound.{faults_tell}
-use Rattle.ps_meaning.proofs.laws.faults_tell_programs.Goals as goal
-
-pub returns : goal.returns
-returns c = faults_tell

@@ -1,5 +1,0 @@
-use Rattle.ps_meaning.proofs.Programs.{valid_and_small}
-use Rattle.ps_meaning.proofs.laws.program_is_valid.Goals as goal
-
-pub returns : goal.returns
-returns c = valid_and_small
