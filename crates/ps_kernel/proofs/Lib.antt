@@ -1,0 +1,9 @@
+pub mod Related
+pub mod Trees
+pub mod Reading
+pub mod Once
+pub mod Tables
+pub mod Going
+pub mod Literals
+pub mod Texts
+pub mod Scopes

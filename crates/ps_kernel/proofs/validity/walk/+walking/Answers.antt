@@ -1,0 +1,63 @@
+use Rattle.std.proofs.Common.{◌≡◌, ◌-◌, sym, ap, subst, ◌∙◌}
+use Rattle.std.specs.Prelude.{OnOk, slice_get}
+use Rattle.std.specs.List.{fold}
+use Rattle.std.proofs.lemmas.List.Sums.{fold-append}
+use Rattle.ps_kernel.specs.declared.expr.Expr.{out-Expr}
+use Rattle.ps_kernel.specs.declared.validity.walk.Walk.{Walk}
+use Rattle.ps_kernel.specs.Walking.{step}
+use Rattle.ps_kernel.specs.Steps.{steps, kind_steps, body_steps}
+use Rattle.ps_kernel.proofs.Reading.{stays, of_no_levels, of_some_levels, of_constant, of_local, of_global, of_lambda, of_if, of_let, of_letrec, of_begin, of_set, of_call, of_proper, of_primitive}
+use Rattle.ps_kernel.proofs.validity.walk.+walking.Goals as goal
+
+pub walk_expr-returns-then-not-walk : goal.walk_expr-returns-then-not-walk
+walk_expr-returns-then-not-walk t c = sym (stays c.args.kernel.now c.args.walk.now (steps c.args.kernel.now c.args.left c.args.tail c.args.e.now) c.if-not-walk.true)
+
+pub walk_expr-returns-then-left-eq0 : goal.walk_expr-returns-then-left-eq0
+walk_expr-returns-then-left-eq0 t c = rw (c.if-left-eq0.true, of_no_levels) c.meet_too_deep.ensures
+
+pub walk_expr-returns : goal.walk_expr-returns
+walk_expr-returns t c = subst (λ (z : Walk). OnOk c.walk_kind.result (c.walk_kind.new.walk ≡ z)) (ap (λ (w : Walk). fold (step c.args.kernel.now) w (kind_steps c.args.kernel.now (c.args.left - 1) c.args.tail (out-Expr c.args.e.now).kind)) c.meet_node.ensures ∙ ap (fold (step c.args.kernel.now) c.args.walk.now) (sym (of_some_levels c.args.kernel.now c.args.left c.args.tail c.args.e.now c.if-left-eq0.false))) c.walk_kind.ensures
+
+pub walk_kind-returns-in-Constant : goal.walk_kind-returns-in-Constant
+walk_kind-returns-in-Constant t c = rw (c.in-Constant.is, of_constant) c.quote.ensures
+
+pub walk_kind-returns-in-Local : goal.walk_kind-returns-in-Local
+walk_kind-returns-in-Local t c = rw (c.in-Local.is, of_local) c.mention.ensures
+
+pub walk_kind-returns-in-Global : goal.walk_kind-returns-in-Global
+walk_kind-returns-in-Global t c = rw (c.in-Global.is, of_global) c.name_global.ensures
+
+pub walk_kind-returns-in_ok-walk_lambda-in-Lambda :
+    goal.walk_kind-returns-in_ok-walk_lambda-in-Lambda
+walk_kind-returns-in_ok-walk_lambda-in-Lambda t c = rw (c.in-Lambda.is, of_lambda) (c.in_ok-walk_lambda-in-Lambda.ensures)
+
+pub walk_kind-returns-in_ok-walk_expr-in-If-3 : goal.walk_kind-returns-in_ok-walk_expr-in-If-3
+walk_kind-returns-in_ok-walk_expr-in-If-3 t c = rw (c.in-If.is, of_if) (simp fold-append (cc (c.get.ensures, c.get-in-If.ensures, c.get-in-If-2.ensures, c.in_ok-walk_expr-in-If.ensures, c.in_ok-walk_expr-in-If-2.ensures, c.in_ok-walk_expr-in-If-3.ensures)))
+
+pub walk_kind-returns-in_ok-walk_let-in-Let : goal.walk_kind-returns-in_ok-walk_let-in-Let
+walk_kind-returns-in_ok-walk_let-in-Let t c = rw (c.in-Let.is, of_let) (cc (c.get-in-Let.ensures, c.get-in-Let-2.ensures, c.in_ok-walk_let-in-Let.ensures))
+
+pub walk_kind-returns-in_ok-walk_letrec-in-Letrec : goal.walk_kind-returns-in_ok-walk_letrec-in-Letrec
+walk_kind-returns-in_ok-walk_letrec-in-Letrec t c = rw (c.in-Letrec.is, of_letrec) (cc (c.as_slice.ensures, c.get-in-Letrec.ensures, c.in_ok-walk_letrec-in-Letrec.ensures))
+
+pub walk_kind-returns-in_ok-walk_sequence-in-Begin :
+    goal.walk_kind-returns-in_ok-walk_sequence-in-Begin
+walk_kind-returns-in_ok-walk_sequence-in-Begin t c = rw (c.in-Begin.is, of_begin) (cc (c.len.ensures, c.begin.ensures, c.as_slice-in-Begin.ensures, c.in_ok-walk_sequence-in-Begin.ensures))
+
+pub walk_kind-returns-in_ok-walk_expr-in-SetGlobal :
+    goal.walk_kind-returns-in_ok-walk_expr-in-SetGlobal
+walk_kind-returns-in_ok-walk_expr-in-SetGlobal t c = rw (c.in-SetGlobal.is, of_set) (cc (c.name_global-in-SetGlobal.ensures, c.get-in-SetGlobal.ensures, c.in_ok-walk_expr-in-SetGlobal.ensures))
+
+pub walk_kind-returns-in_ok-walk_call-in-Call : goal.walk_kind-returns-in_ok-walk_call-in-Call
+walk_kind-returns-in_ok-walk_call-in-Call t c = rw (c.in-Call.is, of_call) (cc (c.get-in-Call.ensures, c.as_slice-in-Call.ensures, c.in_ok-walk_call-in-Call.ensures))
+
+pub walk_kind-returns-in_ok-walk_call-in-ProperCall : goal.walk_kind-returns-in_ok-walk_call-in-ProperCall
+walk_kind-returns-in_ok-walk_call-in-ProperCall t c = rw (c.in-ProperCall.is, of_proper) (cc (c.replace.ensures, c.get-in-ProperCall.ensures, c.as_slice-in-ProperCall.ensures, c.in_ok-walk_call-in-ProperCall.ensures))
+
+pub walk_kind-returns-in_ok-walk_parts-in-Primitive :
+    goal.walk_kind-returns-in_ok-walk_parts-in-Primitive
+walk_kind-returns-in_ok-walk_parts-in-Primitive t c = rw (c.in-Primitive.is, of_primitive) (cc (c.len-in-Primitive.ensures, c.perform.ensures, c.as_slice-in-Primitive.ensures, c.in_ok-walk_parts-in-Primitive.ensures))
+
+pub walk_lambda-returns-then-not-walk : goal.walk_lambda-returns-then-not-walk
+walk_lambda-returns-then-not-walk t c =
+    sym (stays c.args.kernel.now c.meet_lambda.new.walk (body_steps (steps c.args.kernel.now c.args.left) (slice_get c.args.kernel.now.lambdas c.args.number)) c.if-not-walk.true) ∙ ap (λ (w : Walk). fold (step c.args.kernel.now) w (body_steps (steps c.args.kernel.now c.args.left) (slice_get c.args.kernel.now.lambdas c.args.number))) c.meet_lambda.ensures

@@ -1,0 +1,9 @@
+pub mod Texts
+pub mod Marks
+pub mod Once
+pub mod Rules
+pub mod Valid
+pub mod Steps
+pub mod Sizes
+pub mod Captured
+pub mod Walking
