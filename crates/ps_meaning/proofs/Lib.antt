@@ -1,0 +1,12 @@
+pub mod Keeping
+pub mod AtRun
+pub mod AtCompile
+pub mod Longer
+pub mod Same
+pub mod Bounds
+pub mod RunOnlyForms
+pub mod StoreEmbeds
+pub mod SortsEmbed
+pub mod RowsEmbed
+pub mod Embedding
+pub mod RecordsEmbed

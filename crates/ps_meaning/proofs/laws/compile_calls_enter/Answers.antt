@@ -1,0 +1,5 @@
+use Rattle.ps_meaning.proofs.Bounds.{unrolled_at_compile}
+use Rattle.ps_meaning.proofs.laws.compile_calls_enter.Goals as goal
+
+pub returns : goal.returns
+returns c = unrolled_at_compile

@@ -1,0 +1,35 @@
+-- Laws of the source's meaning.
+use Rattle.std.specs.Prelude.{◌≡◌, ◌≢◌, ℕ, ◌≤◌, List}
+use Rattle.byte_store.specs.Agree.{KeepsWhatItHas}
+use Rattle.byte_store.specs.Outcome.{Running}
+use Rattle.byte_store.specs.Worlds.{Surroundings}
+use Rattle.ps_base.specs.declared.faults.Place.{Place}
+use Rattle.byte_store.specs.declared.pointer.Value.{Value}
+use Rattle.ps_kernel.specs.declared.kernel.Kernel.{Kernel}
+use Rattle.ps_meaning.specs.Values.{RunValue}
+use Rattle.ps_meaning.specs.Run.{State, Ends}
+use Rattle.ps_meaning.specs.Eval.{run_entering, run_enters, compile_entering, compile_enters}
+use Rattle.ps_meaning.specs.Source.{Top, Halted, Program, Source, Traced}
+
+-- what the forms come to within a budget, they come to within a larger one
+abbrev pub LargerBudgetKeeps : Type 0
+LargerBudgetKeeps = (k : Kernel) (n m cells : ℕ) → n ≤ m → Top k n cells ≢ Halted (Ends Running) → Top k m cells ≡ Top k n cells
+
+-- a larger bound keeps an outcome that is not Running, and extends the events of a Running one
+abbrev pub LargerBoundKeeps : Type 0
+LargerBoundKeeps = (p : Program) (w : Surroundings) → KeepsWhatItHas (Source p w)
+
+-- the same where cells are counted
+abbrev pub LargerBoundKeepsTraced : Type 0
+LargerBoundKeepsTraced = (p : Program) (w : Surroundings) (cells : ℕ) → KeepsWhatItHas (Traced p w cells)
+
+-- A call with no more calls left than the bound is entering the procedure, where calls are the same. So the bound on nesting
+-- is never met before the calls that are left.
+abbrev pub CallsEnterProcedures : Type 0
+CallsEnterProcedures =
+    (k : Kernel) (n d : ℕ) (at : Place) (v : RunValue) (vs : List RunValue) (s : State RunValue) → s.calls ≤ n → run_enters k n d at v vs s ≡ run_entering k (run_enters k n) d at v vs s
+
+-- the same at compile time
+abbrev pub CompileCallsEnter : Type 0
+CompileCallsEnter =
+    (k : Kernel) (n d : ℕ) (at : Place) (l : ℕ) (vs : List Value) (s : State Value) → s.calls ≤ n → compile_enters k n d at l vs s ≡ compile_entering k (compile_enters k n) d at l vs s
