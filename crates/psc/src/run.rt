@@ -46,8 +46,8 @@ fn compile<I: Source, O: Sink>(alloc: Global, input: &mut I, output: &mut O) -> 
 ///
 /// # Answers
 ///
-/// - `Done`: the whole translation was appended to the output. In every world it does what the program does, and has at most
-///   one frame more than the program's calls are deep.
+/// - `Done`: the whole translation was appended to the output. In every world it does what the program does to which the
+///   top-level forms of the text's kernel come, and has at most one frame more than that program's calls are deep.
 /// - `Refused(Usage(i))`: exactly where word i is the first that breaks the rules, or the command is missing. Nothing was
 ///   read or written.
 /// - `Refused(Source)`: only where the input's count of faults rose. Nothing was written.

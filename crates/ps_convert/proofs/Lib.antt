@@ -1,0 +1,6 @@
+pub mod Walks
+pub mod Steps
+pub mod Expressions
+pub mod Shapes
+pub mod Runs
+pub mod Users

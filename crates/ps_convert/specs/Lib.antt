@@ -1,0 +1,4 @@
+pub mod Kernels
+pub mod Inside
+pub mod Laws
+pub mod Converting
