@@ -1,0 +1,4 @@
+mod Steps
+mod Joins
+mod Performs
+mod Entering

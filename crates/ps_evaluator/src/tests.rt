@@ -1,0 +1,7 @@
+//! Programs whose ends, depths and events were worked out by hand.
+
+mod building;
+mod memory;
+mod procedures;
+mod texts;
+mod values;
