@@ -1,3 +1,4 @@
+pub mod Spaces
 pub mod Fronts
 pub mod Agree
 pub mod Progress

@@ -8,3 +8,4 @@ pub mod Operations
 pub mod Store
 pub mod Inside
 pub mod Lines
+pub mod Parts

@@ -3,7 +3,7 @@
 -- A line is a word for the operation, what it was given and what it answered, with one space before each, and byte 10. The
 -- definition is a table: `event_line` has a case for each event, and `a & b` is a text and then another. Numbers are
 -- decimal, behind `-` where they are negative.
-use Rattle.std.specs.Prelude.{ℕ, ℤ, pos, negsuc, List, if◌then◌else◌, codes, decimal}
+use Rattle.std.specs.Prelude.{ℕ, ℤ, pos, negsuc, List, [], ◌∷◌, if◌then◌else◌, codes, decimal}
 use Rattle.std.specs.Ordering.{int_eq}
 use Rattle.std.specs.Fmt.{signed_decimal}
 use Rattle.ps_base.specs.Texts.{◌&◌}
@@ -53,18 +53,26 @@ word_text (words.Pointer p) = pointer_text p
 unfoldable pub input_text : ℤ → List ℕ
 input_text i = if int_eq i (negsuc 0) then codes "end" else signed_decimal i
 
+-- a word and the texts behind it, with one space before each, and byte 10
+unfoldable pub spaced : List (List ℕ) → List ℕ
+spaced [] = codes "\n"
+spaced (text ∷ texts) = codes " " & text & spaced texts
+
+unfoldable pub line : List ℕ → List (List ℕ) → List ℕ
+line word texts = word & spaced texts
+
 -- the line of an event
 unfoldable pub event_line : Event → List ℕ
-event_line (events.Input i) = codes "in " & input_text i & codes "\n"
-event_line (events.Output i) = codes "out " & signed_decimal i & codes "\n"
-event_line (events.Allocate n p) = codes "alloc " & signed_decimal n & codes " " & made_text p & codes "\n"
-event_line (events.Fill n w p) = codes "vector " & signed_decimal n & codes " " & word_text w & codes " " & made_text p & codes "\n"
-event_line (events.Tuple n p) = codes "tuple " & signed_decimal n & codes " " & made_text p & codes "\n"
-event_line (events.Free p) = codes "free " & known_text p & codes "\n"
-event_line (events.Load p i) = codes "load " & pointer_text p & codes " " & signed_decimal i & codes "\n"
-event_line (events.Keep p i) = codes "store " & pointer_text p & codes " " & signed_decimal i & codes "\n"
-event_line (events.LoadWord p i) = codes "loadw " & pointer_text p & codes " " & signed_decimal i & codes "\n"
-event_line (events.KeepWord p i) = codes "storew " & pointer_text p & codes " " & signed_decimal i & codes "\n"
-event_line (events.Get p w) = codes "get " & pointer_text p & codes " " & word_text w & codes "\n"
-event_line (events.Put p w) = codes "put " & pointer_text p & codes " " & word_text w & codes "\n"
-event_line (events.Length p n) = codes "length " & known_text p & codes " " & signed_decimal n & codes "\n"
+event_line (events.Input i) = line (codes "in") (input_text i ∷ [])
+event_line (events.Output i) = line (codes "out") (signed_decimal i ∷ [])
+event_line (events.Allocate n p) = line (codes "alloc") (signed_decimal n ∷ made_text p ∷ [])
+event_line (events.Fill n w p) = line (codes "vector") (signed_decimal n ∷ word_text w ∷ made_text p ∷ [])
+event_line (events.Tuple n p) = line (codes "tuple") (signed_decimal n ∷ made_text p ∷ [])
+event_line (events.Free p) = line (codes "free") (known_text p ∷ [])
+event_line (events.Load p i) = line (codes "load") (pointer_text p ∷ signed_decimal i ∷ [])
+event_line (events.Keep p i) = line (codes "store") (pointer_text p ∷ signed_decimal i ∷ [])
+event_line (events.LoadWord p i) = line (codes "loadw") (pointer_text p ∷ signed_decimal i ∷ [])
+event_line (events.KeepWord p i) = line (codes "storew") (pointer_text p ∷ signed_decimal i ∷ [])
+event_line (events.Get p w) = line (codes "get") (pointer_text p ∷ word_text w ∷ [])
+event_line (events.Put p w) = line (codes "put") (pointer_text p ∷ word_text w ∷ [])
+event_line (events.Length p n) = line (codes "length") (known_text p ∷ signed_decimal n ∷ [])

@@ -1,32 +1,23 @@
 //! The lines of events. Each piece is written unless a fault came before, and what came of the pieces so far is passed from
 //! one to the next.
 
-ghost use Rattle.std.specs.Prelude.{◌≡◌, codes, decimal};
-ghost use Rattle.std.specs.Fmt.{signed_decimal};
+ghost use Rattle.std.specs.Prelude.{◌≡◌, ◌<◌, codes, length, map};
 ghost use Rattle.ps_base.specs.Sinks.{Adds, Writes};
 ghost use Rattle.ps_base.specs.Texts.{◌&◌};
-ghost use Rattle.byte_store.specs.Lines.{base_text, place_text, block_text, pointer_text, made_text, known_text, word_text, input_text, event_line};
+ghost use Rattle.byte_store.specs.Lines.{base_text, place_text, block_text, pointer_text, made_text, known_text, word_text, input_text, line, event_line};
+ghost use Rattle.byte_store.specs.Parts.{part_text};
 
 use crate::event::Event;
 use crate::pointer::{Base, Pointer, Word};
-use ps_base::{Sink, SinkFault, Written, put, put_integer, put_number};
-
-// Words, and then a number.
-#[tactic(auto, using(ps_base::proofs::Writing::adds_then))]
-fn put_numbered<O: Sink>(out: &mut O, so_far: Written, words: &[u8], number: u32) -> Written
-    ensures { Adds (O.shows out.old) so_far (O.shows out.new) result (words.now & decimal number) }
-{
-    let so_far = put(out, so_far, words);
-    put_number(out, so_far, number as u64)
-}
+use ps_base::{Sink, SinkFault, Style, Written, put, put_each, put_integer, put_numbered};
 
 #[tactic(auto, unfolding(crate::specs::Lines::base_text))]
 fn put_base<O: Sink>(out: &mut O, so_far: Written, base: Base) -> Written
     ensures { Adds (O.shows out.old) so_far (O.shows out.new) result (base_text base) }
 {
     match base {
-        Base::Fixed(number) => put_numbered(out, so_far, b"s", number),
-        Base::Made(number) => put_numbered(out, so_far, b"d", number),
+        Base::Fixed(number) => put_numbered(out, so_far, b"s", number as u64),
+        Base::Made(number) => put_numbered(out, so_far, b"d", number as u64),
     }
 }
 
@@ -106,112 +97,56 @@ fn put_input<O: Sink>(out: &mut O, so_far: Written, byte: i64) -> Written
     }
 }
 
-#[tactic(auto, using(ps_base::proofs::Writing::adds_then))]
-fn put_input_line<O: Sink>(out: &mut O, so_far: Written, byte: i64) -> Written
-    ensures { Adds (O.shows out.old) so_far (O.shows out.new) result (codes "in " & input_text byte & codes "\n") }
-{
-    let so_far = put(out, so_far, b"in ");
-    let so_far = put_input(out, so_far, byte);
-    put(out, so_far, b"\n")
+/// What stands in a line behind its first word.
+#[derive(Clone, Copy)]
+pub enum Part {
+    /// An integer.
+    Integer(i64),
+    /// A byte that was read, or -1 for the end of the input.
+    Input(i64),
+    /// What a cell shows.
+    Word(Word),
+    /// A pointer into a block.
+    Place(Pointer),
+    /// A pointer that stands for a block that was made.
+    Made(Pointer),
+    /// A pointer that stands for a block that was there.
+    Known(Pointer),
 }
 
-#[tactic(auto, using(ps_base::proofs::Writing::adds_then))]
-fn put_output_line<O: Sink>(out: &mut O, so_far: Written, byte: i64) -> Written
-    ensures { Adds (O.shows out.old) so_far (O.shows out.new) result (codes "out " & signed_decimal byte & codes "\n") }
-{
-    let so_far = put(out, so_far, b"out ");
-    let so_far = put_integer(out, so_far, byte);
-    put(out, so_far, b"\n")
+// The way to write the parts of a line.
+struct Spaced;
+
+impl Style<Part> for Spaced {
+    ghost text = { λ k part. codes " " & part_text part };
+
+    #[tactic(auto, using(ps_base::proofs::Writing::adds_then))]
+    fn put_at<O: Sink>(out: &mut O, so_far: Written, _place: u64, part: &Part) -> Written {
+        let so_far = put(out, so_far, b" ");
+        put_part(out, so_far, *part)
+    }
 }
 
-// The line of a block of this size that was asked for.
-#[tactic(auto, using(ps_base::proofs::Writing::adds_then))]
-fn put_made_line<O: Sink>(
-    out: &mut O,
-    so_far: Written,
-    words: &[u8],
-    size: i64,
-    pointer: Pointer,
-) -> Written
-    ensures { Adds (O.shows out.old) so_far (O.shows out.new) result (words.now & signed_decimal size & codes " " & made_text pointer & codes "\n") }
+fn put_part<O: Sink>(out: &mut O, so_far: Written, part: Part) -> Written
+    ensures { Adds (O.shows out.old) so_far (O.shows out.new) result (part_text part) }
 {
-    let so_far = put(out, so_far, words);
-    let so_far = put_integer(out, so_far, size);
-    let so_far = put(out, so_far, b" ");
-    let so_far = put_made(out, so_far, pointer);
-    put(out, so_far, b"\n")
+    match part {
+        Part::Integer(number) => put_integer(out, so_far, number),
+        Part::Input(byte) => put_input(out, so_far, byte),
+        Part::Word(word) => put_word(out, so_far, word),
+        Part::Place(pointer) => put_pointer(out, so_far, pointer),
+        Part::Made(pointer) => put_made(out, so_far, pointer),
+        Part::Known(pointer) => put_known(out, so_far, pointer),
+    }
 }
 
-fn put_fill_line<O: Sink>(
-    out: &mut O,
-    so_far: Written,
-    size: i64,
-    word: Word,
-    pointer: Pointer,
-) -> Written
-    ensures { Adds (O.shows out.old) so_far (O.shows out.new) result (codes "vector " & signed_decimal size & codes " " & word_text word & codes " " & made_text pointer & codes "\n") }
+// A word and the parts behind it.
+fn put_line<O: Sink>(out: &mut O, so_far: Written, word: &[u8], parts: &[Part]) -> Written
+    requires { length parts.now < 4 }
+    ensures { Adds (O.shows out.old) so_far (O.shows out.new) result (line word.now (map part_text parts.now)) }
 {
-    let so_far = put(out, so_far, b"vector ");
-    let so_far = put_integer(out, so_far, size);
-    let so_far = put(out, so_far, b" ");
-    let so_far = put_word(out, so_far, word);
-    let so_far = put(out, so_far, b" ");
-    let so_far = put_made(out, so_far, pointer);
-    put(out, so_far, b"\n")
-}
-
-#[tactic(auto, using(ps_base::proofs::Writing::adds_then))]
-fn put_free_line<O: Sink>(out: &mut O, so_far: Written, pointer: Pointer) -> Written
-    ensures { Adds (O.shows out.old) so_far (O.shows out.new) result (codes "free " & known_text pointer & codes "\n") }
-{
-    let so_far = put(out, so_far, b"free ");
-    let so_far = put_known(out, so_far, pointer);
-    put(out, so_far, b"\n")
-}
-
-// The line of a number that was read or put at a pointer.
-#[tactic(auto, using(ps_base::proofs::Writing::adds_then))]
-fn put_number_line<O: Sink>(
-    out: &mut O,
-    so_far: Written,
-    words: &[u8],
-    pointer: Pointer,
-    number: i64,
-) -> Written
-    ensures { Adds (O.shows out.old) so_far (O.shows out.new) result (words.now & pointer_text pointer & codes " " & signed_decimal number & codes "\n") }
-{
-    let so_far = put(out, so_far, words);
-    let so_far = put_pointer(out, so_far, pointer);
-    let so_far = put(out, so_far, b" ");
-    let so_far = put_integer(out, so_far, number);
-    put(out, so_far, b"\n")
-}
-
-// The line of a cell that was read or changed at a pointer.
-#[tactic(auto, using(ps_base::proofs::Writing::adds_then))]
-fn put_word_line<O: Sink>(
-    out: &mut O,
-    so_far: Written,
-    words: &[u8],
-    pointer: Pointer,
-    word: Word,
-) -> Written
-    ensures { Adds (O.shows out.old) so_far (O.shows out.new) result (words.now & pointer_text pointer & codes " " & word_text word & codes "\n") }
-{
-    let so_far = put(out, so_far, words);
-    let so_far = put_pointer(out, so_far, pointer);
-    let so_far = put(out, so_far, b" ");
-    let so_far = put_word(out, so_far, word);
-    put(out, so_far, b"\n")
-}
-
-fn put_length_line<O: Sink>(out: &mut O, so_far: Written, pointer: Pointer, length: i64) -> Written
-    ensures { Adds (O.shows out.old) so_far (O.shows out.new) result (codes "length " & known_text pointer & codes " " & signed_decimal length & codes "\n") }
-{
-    let so_far = put(out, so_far, b"length ");
-    let so_far = put_known(out, so_far, pointer);
-    let so_far = put(out, so_far, b" ");
-    let so_far = put_integer(out, so_far, length);
+    let so_far = put(out, so_far, word);
+    let so_far = put_each::<Spaced, Part, O>(out, so_far, 0, parts);
     put(out, so_far, b"\n")
 }
 
@@ -220,19 +155,59 @@ fn put_event<O: Sink>(out: &mut O, so_far: Written, event: Event) -> Written
     ensures { Adds (O.shows out.old) so_far (O.shows out.new) result (event_line event) }
 {
     match event {
-        Event::Input(byte) => put_input_line(out, so_far, byte),
-        Event::Output(byte) => put_output_line(out, so_far, byte),
-        Event::Allocate(size, pointer) => put_made_line(out, so_far, b"alloc ", size, pointer),
-        Event::Fill(size, word, pointer) => put_fill_line(out, so_far, size, word, pointer),
-        Event::Tuple(size, pointer) => put_made_line(out, so_far, b"tuple ", size, pointer),
-        Event::Free(pointer) => put_free_line(out, so_far, pointer),
-        Event::Load(pointer, byte) => put_number_line(out, so_far, b"load ", pointer, byte),
-        Event::Keep(pointer, byte) => put_number_line(out, so_far, b"store ", pointer, byte),
-        Event::LoadWord(pointer, word) => put_number_line(out, so_far, b"loadw ", pointer, word),
-        Event::KeepWord(pointer, word) => put_number_line(out, so_far, b"storew ", pointer, word),
-        Event::Get(pointer, word) => put_word_line(out, so_far, b"get ", pointer, word),
-        Event::Put(pointer, word) => put_word_line(out, so_far, b"put ", pointer, word),
-        Event::Length(pointer, length) => put_length_line(out, so_far, pointer, length),
+        Event::Input(byte) => put_line(out, so_far, b"in", &[Part::Input(byte)]),
+        Event::Output(byte) => put_line(out, so_far, b"out", &[Part::Integer(byte)]),
+        Event::Allocate(size, p) => put_line(
+            out,
+            so_far,
+            b"alloc",
+            &[Part::Integer(size), Part::Made(p)],
+        ),
+        Event::Fill(size, word, p) => put_line(
+            out,
+            so_far,
+            b"vector",
+            &[Part::Integer(size), Part::Word(word), Part::Made(p)],
+        ),
+        Event::Tuple(size, p) => put_line(
+            out,
+            so_far,
+            b"tuple",
+            &[Part::Integer(size), Part::Made(p)],
+        ),
+        Event::Free(p) => put_line(out, so_far, b"free", &[Part::Known(p)]),
+        Event::Load(p, byte) => put_line(
+            out,
+            so_far,
+            b"load",
+            &[Part::Place(p), Part::Integer(byte)],
+        ),
+        Event::Keep(p, byte) => put_line(
+            out,
+            so_far,
+            b"store",
+            &[Part::Place(p), Part::Integer(byte)],
+        ),
+        Event::LoadWord(p, word) => put_line(
+            out,
+            so_far,
+            b"loadw",
+            &[Part::Place(p), Part::Integer(word)],
+        ),
+        Event::KeepWord(p, word) => put_line(
+            out,
+            so_far,
+            b"storew",
+            &[Part::Place(p), Part::Integer(word)],
+        ),
+        Event::Get(p, word) => put_line(out, so_far, b"get", &[Part::Place(p), Part::Word(word)]),
+        Event::Put(p, word) => put_line(out, so_far, b"put", &[Part::Place(p), Part::Word(word)]),
+        Event::Length(p, length) => put_line(
+            out,
+            so_far,
+            b"length",
+            &[Part::Known(p), Part::Integer(length)],
+        ),
     }
 }
 

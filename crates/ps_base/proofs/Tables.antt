@@ -1,7 +1,7 @@
 -- Tables of texts over an index set.
 use Rattle.std.proofs.Common.{◌≡◌, ℕ, zero, suc, ◌+◌, List, [], ◌∷◌, ◌++◌, length, map, Some, refl, sym, ap, ◌∙◌, subst, arith, Bool, true, false, not, cond, ◌||◌, ◌⊎◌, inl, inr, ⊎_elim}
 use Rattle.std.proofs.Common.{Vec, Global}
-use Rattle.std.specs.Prelude.{slice_get, nat_lt, if◌then◌else◌, None, Option, ◌<◌}
+use Rattle.std.specs.Prelude.{slice_get, nat_lt, if◌then◌else◌, None, ◌<◌}
 use Rattle.std.specs.Option.{option_map}
 use Rattle.std.specs.List.{list_any, find, position_or_len, position}
 use Rattle.std.proofs.lemmas.Bool.{ltb-true, lt-ltb}

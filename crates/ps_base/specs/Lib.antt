@@ -4,4 +4,5 @@ pub mod Numbers
 pub mod Names
 pub mod SinkStates
 pub mod Sinks
+pub mod Logs
 pub mod Texts

@@ -1,7 +1,7 @@
 //! A table of distinct texts.
 
 ghost use Rattle.std.specs.Prelude.{◌≡◌, ℕ, ◌<◌, ◌≤◌, ◌^◌, List, [], length, slice_get, None, Some, MatchOption, OnErr, IfOk, IsTrue, ◌↔◌};
-ghost use Rattle.ps_base.specs.Names.{AreDistinct, Adds, number_of};
+ghost use Rattle.ps_base.specs.Names.{AreDistinct, Adds, IsNew, number_of};
 
 use crate::memory::NoMemory;
 use indexmap::IndexSet;
@@ -81,12 +81,13 @@ impl Names {
     ///
     /// # Errors
     ///
-    /// `NoMemory` where memory ran out. The table is then as it was.
+    /// `NoMemory` where the text is new and memory ran out. The table is then as it was.
     pub fn add(&mut self, text: &[u8]) -> Result<Name, NoMemory>
         requires { length self.old < 4294967295 }
         ensures ok { IfOk result (λ name. Adds self.old self.new text.now name.0) }
         ensures distinct { AreDistinct self.new }
         ensures err { OnErr result (self.new ≡ self.old) }
+        ensures wanted { OnErr result (IsNew self.old text.now) }
     {
         if let Some((number, _)) = self.texts.get_full(text) {
             return Ok(Name(number as u32));

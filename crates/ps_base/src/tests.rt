@@ -1,8 +1,7 @@
 //! Names in a table, the numbers of faults, the standard limits, and pieces of a text into a sink that fails in
 //! mid-stream.
 
-ghost use Rattle.std.specs.Prelude.{◌<◌, ◌^◌, Some, length, decimal, refl};
-ghost use Rattle.ps_base.specs.Numbers.{more};
+ghost use Rattle.std.specs.Prelude.{◌<◌, ◌^◌, length, decimal};
 ghost use Rattle.ps_base.specs.Texts.{◌&◌};
 
 use crate::*;
@@ -95,53 +94,27 @@ fn standard_limits(rt: HostRuntime) {
 }
 
 // A sink of at most two bytes a call. The call of this number fails, and then it goes on.
-#[derive(Drop)]
-struct Memory {
-    bytes: Vec<u8>,
-    calls: usize,
-    failing: usize,
-    faults: u64,
-}
-
-impl Sink for Memory {
-    ghost shows = { λ s. record { bytes = Some s.bytes.items; number = Some (more 0 (length s.bytes.items)); faults = s.faults } };
-
-    ghost tells_number = { λ _. refl };
-
-    fn write(&mut self, piece: &[u8]) -> Taken {
-        let call = self.calls;
-        self.calls = call.saturating_add(1);
-        let k = piece.len().min(2);
-        let (front, _) = piece.split_at(k);
-        if call == self.failing || self.bytes.extend_from_slice(front).is_err() {
-            self.faults = self.faults.saturating_add(1);
-            return Taken::Failed;
-        }
-        Taken::Bytes(k)
-    }
-}
-
-fn empty_sink(alloc: Global, failing: usize) -> Memory {
-    Memory {
-        bytes: Vec::new(alloc),
-        calls: 0,
-        failing,
-        faults: 0,
-    }
+fn sink(alloc: Global, failing: u64) -> Result<MemorySink, Fail> {
+    let failing = Items::from_slice(alloc, &[failing])?;
+    Ok(MemorySink::new(alloc, 99, 2, failing)?)
 }
 
 #[test]
-fn writes_all_or_a_front(rt: HostRuntime) {
-    let mut whole = empty_sink(rt.alloc(), 9);
-    assert_eq!(rt; write_all(&mut whole, b""), Ok(()));
-    assert_eq!(rt; whole.calls, 0);
-    assert_eq!(rt; write_all(&mut whole, b"abcde"), Ok(()));
-    assert_eq!(rt; whole.bytes.as_slice(), b"abcde".as_slice());
-    let mut cut = empty_sink(rt.alloc(), 1);
-    assert_eq!(rt; write_all(&mut cut, b"abcde"), Err(SinkFault));
-    assert_eq!(rt; cut.bytes.as_slice(), b"ab".as_slice());
-    assert_eq!(rt; write_all(&mut cut, b"cde"), Ok(()));
-    assert_eq!(rt; cut.bytes.as_slice(), b"abcde".as_slice());
+fn writes_all_or_a_front(rt: HostRuntime) -> Result<(), Fail> {
+    // The first call, which fails, is not that of the empty text.
+    let table = [
+        (9, Ok(()), b"abcdecde".as_slice()),
+        (1, Err(SinkFault), b"abcde"),
+        (0, Err(SinkFault), b"cde"),
+    ];
+    for (failing, want, text) in table {
+        let mut out = sink(rt.alloc(), failing)?;
+        assert_eq!(rt; write_all(&mut out, b""), Ok(()));
+        assert_eq!(rt; write_all(&mut out, b"abcde"), want);
+        assert_eq!(rt; write_all(&mut out, b"cde"), Ok(()));
+        assert_eq!(rt; out.bytes(), text, "call {failing} fails");
+    }
+    Ok(())
 }
 
 // Members by their digits, each with its place before it.
@@ -173,18 +146,17 @@ fn puts_pieces_until_the_first_fault(rt: HostRuntime) -> Result<(), Fail> {
         (13, Err(SinkFault), b"n=0:070180290:9700"),
     ];
     for (failing, want, text) in table {
-        let mut out = empty_sink(alloc, failing);
-        let so_far = put(&mut out, Ok(()), b"n=");
-        let so_far = put_number(&mut out, so_far, 0);
+        let mut out = sink(alloc, failing)?;
+        let so_far = put_numbered(&mut out, Ok(()), b"n=", 0);
         let so_far = put(&mut out, so_far, b":");
-        let so_far = put_all::<Numbered, u64, Memory>(&mut out, so_far, &numbers);
+        let so_far = put_all::<Numbered, u64, MemorySink>(&mut out, so_far, &numbers);
         let so_far = put(&mut out, so_far, b":");
-        let so_far = put_each::<Numbered, u64, Memory>(&mut out, so_far, 9, &[70]);
+        let so_far = put_each::<Numbered, u64, MemorySink>(&mut out, so_far, 9, &[70]);
         let so_far = put_integer(&mut out, so_far, 0);
         let so_far = put_integer(&mut out, so_far, -1);
         let so_far = put_integer(&mut out, so_far, i64::MIN);
         assert_eq!(rt; so_far, want, "call {failing} fails");
-        assert_eq!(rt; out.bytes.as_slice(), text, "call {failing} fails");
+        assert_eq!(rt; out.bytes(), text, "call {failing} fails");
     }
     Ok(())
 }

@@ -4,7 +4,7 @@
 ghost use Rattle.std.specs.Prelude.{ℕ, ◌+◌, ◌<◌, ◌^◌, List, length, decimal};
 ghost use Rattle.std.specs.Fmt.{signed_decimal};
 ghost use Rattle.ps_base.specs.Sinks.{Adds};
-ghost use Rattle.ps_base.specs.Texts.{each};
+ghost use Rattle.ps_base.specs.Texts.{◌&◌, each};
 
 use crate::items::Items;
 use crate::sink::{Sink, SinkFault, write_all};
@@ -29,6 +29,15 @@ pub fn put_number<O: Sink>(out: &mut O, so_far: Written, number: u64) -> Written
 {
     let mut buffer = Buffer::new();
     put(out, so_far, buffer.format(number).as_bytes())
+}
+
+/// Appends the bytes and then the decimal digits of the number, unless a fault came before.
+#[tactic(auto, using(crate::proofs::Writing::adds_then))]
+pub fn put_numbered<O: Sink>(out: &mut O, so_far: Written, bytes: &[u8], number: u64) -> Written
+    ensures { Adds (O.shows out.old) so_far (O.shows out.new) result (bytes.now & decimal number) }
+{
+    let so_far = put(out, so_far, bytes);
+    put_number(out, so_far, number)
 }
 
 /// Appends the decimal digits of the integer, behind `-` where it is negative, unless a fault came before.

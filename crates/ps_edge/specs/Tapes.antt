@@ -1,6 +1,6 @@
 -- A source that gives bytes of its own, and each of its calls (this project's own).
-use Rattle.std.specs.Prelude.{ℕ, List, length, drop, min, Bool, Some, nat_eq, if◌then◌else◌}
-use Rattle.std.specs.List.{list_any}
+use Rattle.std.specs.Prelude.{ℕ, List, length, drop, min, Some, if◌then◌else◌}
+use Rattle.ps_base.specs.Logs.{is_listed}
 use Rattle.ps_base.specs.Numbers.{more}
 use Rattle.ps_edge.specs.SourceStates.{SourceState}
 use Rattle.ps_edge.specs.Sources.{piece_of}
@@ -24,10 +24,6 @@ pub record Tape : Type 0 where
 -- what the source shows of itself
 abbrev pub tape_shows : Tape → SourceState
 tape_shows tape = record { left = Some tape.left; given = tape.given; faults = tape.faults }
-
--- the call with this number is to fail
-abbrev pub is_listed : ℕ → List ℕ → Bool
-is_listed call failing = list_any (λ n. nat_eq n call) failing
 
 -- what the next call gives, where it may give up to `size` bytes
 abbrev pub next_piece : Tape → ℕ → Piece

@@ -5,14 +5,12 @@
 //! writers of std.
 #![tactic(auto)]
 
-mod memory_sink;
 mod memory_source;
 mod source;
 mod std_io;
 
-pub use memory_sink::MemorySink;
 pub use memory_source::MemorySource;
-pub use ps_base::{Sink, SinkFault, Taken, write_all};
+pub use ps_base::{MemorySink, Sink, SinkFault, Taken, write_all};
 pub use source::{Piece, Source, TextFault, read_text};
 pub use std_io::{ReaderSource, WriterSink};
 

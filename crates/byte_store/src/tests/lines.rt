@@ -1,67 +1,29 @@
 //! The line of each event, and a sink that fails in mid-stream.
 
-ghost use Rattle.std.specs.Prelude.{Some, length, refl};
-ghost use Rattle.ps_base.specs.Numbers.{more};
-
-use crate::{Base, Event, Pointer, Word, write_event};
-use ps_base::{Sink, SinkFault, Taken};
+use crate::tests::fixture::{fixed, made};
+use crate::{Event, Pointer, Word, write_event};
+use ps_base::{Items, MemorySink, SinkFault};
 use std::alloc::Global;
 use std::process::Abort;
+use std::test::Fail;
 
-// A sink of at most four bytes a call. The call of this number fails, and then it goes on.
-#[derive(Drop)]
-struct Memory {
-    bytes: Vec<u8>,
-    calls: usize,
-    failing: usize,
-    faults: u64,
+// A sink of at most four bytes a call. The calls of these numbers fail.
+fn sink(alloc: Global, failing: &[u64]) -> Result<MemorySink, Fail> {
+    let failing = Items::from_slice(alloc, failing)?;
+    Ok(MemorySink::new(alloc, 99, 4, failing)?)
 }
 
-impl Sink for Memory {
-    ghost shows = { λ s. record { bytes = Some s.bytes.items; number = Some (more 0 (length s.bytes.items)); faults = s.faults } };
-
-    ghost tells_number = { λ _. refl };
-
-    fn write(&mut self, piece: &[u8]) -> Taken {
-        let call = self.calls;
-        self.calls = call.saturating_add(1);
-        let k = piece.len().min(4);
-        let (front, _) = piece.split_at(k);
-        if call == self.failing || self.bytes.extend_from_slice(front).is_err() {
-            self.faults = self.faults.saturating_add(1);
-            return Taken::Failed;
-        }
-        Taken::Bytes(k)
-    }
-}
-
-fn empty_sink(alloc: Global, failing: usize) -> Memory {
-    Memory {
-        bytes: Vec::new(alloc),
-        calls: 0,
-        failing,
-        faults: 0,
-    }
-}
-
-fn fixed(number: u32, offset: i64) -> Pointer {
-    Pointer::At(Base::Fixed(number), offset)
-}
-
-fn made(number: u32, offset: i64) -> Pointer {
-    Pointer::At(Base::Made(number), offset)
-}
-
-fn writes_lines(rt: &impl Abort, alloc: Global, cases: &[(Event, &[u8])]) {
+fn writes_lines(rt: &impl Abort, alloc: Global, cases: &[(Event, &[u8])]) -> Result<(), Fail> {
     for (event, line) in cases {
-        let mut out = empty_sink(alloc, 99);
+        let mut out = sink(alloc, &[])?;
         assert_eq!(rt; write_event(event, &mut out), Ok(()), "{event:?}");
-        assert_eq!(rt; out.bytes.as_slice(), *line, "{event:?}");
+        assert_eq!(rt; out.bytes(), *line, "{event:?}");
     }
+    Ok(())
 }
 
 #[test]
-fn writes_the_line_of_each_block(rt: HostRuntime) {
+fn writes_the_line_of_each_block(rt: HostRuntime) -> Result<(), Fail> {
     let null = Pointer::Null;
     let cases: &[(Event, &[u8])] = &[
         (Event::Allocate(16, made(0, 0)), b"alloc 16 d0\n"),
@@ -94,11 +56,11 @@ fn writes_the_line_of_each_block(rt: HostRuntime) {
         (Event::Free(made(0, 4)), b"free d0+4\n"),
         (Event::Free(fixed(4294967295, -8)), b"free s4294967295+-8\n"),
     ];
-    writes_lines(&rt, rt.alloc(), cases);
+    writes_lines(&rt, rt.alloc(), cases)
 }
 
 #[test]
-fn writes_the_line_of_each_byte_and_cell(rt: HostRuntime) {
+fn writes_the_line_of_each_byte_and_cell(rt: HostRuntime) -> Result<(), Fail> {
     let null = Pointer::Null;
     let cases: &[(Event, &[u8])] = &[
         (Event::Input(65), b"in 65\n"),
@@ -129,24 +91,25 @@ fn writes_the_line_of_each_byte_and_cell(rt: HostRuntime) {
         (Event::Length(fixed(1, 2), 5), b"length s1+2 5\n"),
         (Event::Length(null, 0), b"length null 0\n"),
     ];
-    writes_lines(&rt, rt.alloc(), cases);
+    writes_lines(&rt, rt.alloc(), cases)
 }
 
 #[test]
-fn writes_a_front_until_the_sink_fails(rt: HostRuntime) {
+fn writes_a_front_until_the_sink_fails(rt: HostRuntime) -> Result<(), Fail> {
     let fill = Event::Fill(3, Word::Number(7), made(0, 0));
-    // The line of the next event comes behind the front.
-    let cases: &[(usize, &[u8])] = &[
+    // The pieces are a word, and a blank and a number for each part. The line of the next event comes behind the front.
+    let cases: &[(u64, &[u8])] = &[
         (0, b"out 65\n"),
         (1, b"vectout 65\n"),
-        (4, b"vector 3 out 65\n"),
-        (8, b"vector 3 7 d0out 65\n"),
+        (4, b"vector 3out 65\n"),
+        (8, b"vector 3 7 dout 65\n"),
+        (9, b"vector 3 7 d0out 65\n"),
     ];
     for (failing, lines) in cases {
-        let mut out = empty_sink(rt.alloc(), *failing);
+        let mut out = sink(rt.alloc(), &[*failing])?;
         assert_eq!(rt; write_event(&fill, &mut out), Err(SinkFault));
-        assert_eq!(rt; out.faults, 1);
         assert_eq!(rt; write_event(&Event::Output(65), &mut out), Ok(()));
-        assert_eq!(rt; out.bytes.as_slice(), *lines, "call {failing} fails");
+        assert_eq!(rt; out.bytes(), *lines, "call {failing} fails");
     }
+    Ok(())
 }

@@ -1,4 +1,4 @@
-use Rattle.std.proofs.Common.{◌≡◌, ℕ, ◌<◌, List, [], ◌∷◌, ◌++◌, map, length, Some, ap, sym, ◌∙◌, refl, inl, inr, false, Vec, Global, arith, subst, length-append}
+use Rattle.std.proofs.Common.{◌≡◌, ℕ, ◌<◌, List, [], ◌∷◌, ◌++◌, map, length, Some, ap, sym, ◌∙◌, refl, inl, inr, false, OnErr, Result, Ok, Err, Vec, Global, arith, subst, length-append}
 use Rattle.std.specs.Prelude.{if◌then◌else◌}
 use Rattle.std.specs.List.{list_any}
 use Rattle.std.specs.Option.{option_map}
@@ -72,3 +72,13 @@ returns-clause-distinct c =
     let new = new_texts c in
     let distinct = subst AreDistinct c.self.view_is c.self.invariant.0 in
     subst AreDistinct (sym new.0) (distinct-more c.args.self.now c.args.text.now distinct new.1)
+
+on_err : {A E : Type 0} {P : Type 0} (r : Result A E) → P → OnErr r P
+on_err (Ok a) p = tt
+on_err (Err e) p = p
+
+pub returns-in_err-copy-clause-wanted : goal.returns-in_err-copy-clause-wanted
+returns-in_err-copy-clause-wanted c = on_err _ (subst (λ l. IsNew l c.args.text.now) c.self.view_is (none-new c.self.inside.texts.keys c.args.text.now (sym c.in_default.ensures.found)))
+
+pub returns-in_err-number-clause-wanted : goal.returns-in_err-number-clause-wanted
+returns-in_err-number-clause-wanted c = on_err _ (subst (λ l. IsNew l c.args.text.now) c.self.view_is (none-new c.self.inside.texts.keys c.args.text.now (sym c.in_default.ensures.found)))

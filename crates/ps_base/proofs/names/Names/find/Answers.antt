@@ -1,4 +1,4 @@
-use Rattle.std.proofs.Common.{Vec, Global, ap, sym, ◌∙◌}
+use Rattle.std.proofs.Common.{ap, sym, ◌∙◌}
 use Rattle.ps_base.specs.Names.{number_of}
 use Rattle.ps_base.proofs.Tables.{position-is}
 use Rattle.ps_base.proofs.names.Names.find.Goals as goal

@@ -2,7 +2,9 @@
 
 ghost use Rattle.std.specs.Prelude.{◌≡◌, ℕ, ◌<◌, ◌≤◌, ◌+◌, ◌-◌, ◌^◌, List, [], length, IfOk};
 
-use ps_base::{Calls, NoMemory, Sink, Taken};
+use crate::items::Calls;
+use crate::memory::NoMemory;
+use crate::sink::{Sink, Taken};
 use std::alloc::Global;
 use std::marker::Model;
 
@@ -20,7 +22,7 @@ pub struct MemorySink {
 
 impl Model for MemorySink {
     ghost use Rattle.std.specs.Prelude.{ℕ, ◌<◌, ◌≤◌, length, vec_capacity};
-    ghost use Rattle.ps_edge.specs.Logs.{Log};
+    ghost use Rattle.ps_base.specs.Logs.{Log};
 
     ghost Value = { Log };
 
@@ -67,7 +69,7 @@ impl MemorySink {
 impl Sink for MemorySink {
     ghost use Rattle.std.specs.Prelude.{◌≡◌, ◌<◌, length, refl};
     ghost use Rattle.ps_base.specs.Sinks.{Takes};
-    ghost use Rattle.ps_edge.specs.Logs.{log_shows, next_taken, log_after};
+    ghost use Rattle.ps_base.specs.Logs.{log_shows, next_taken, log_after};
 
     ghost shows = { log_shows };
 

@@ -1,10 +1,14 @@
 -- A sink that keeps the bytes that it takes, and each of its calls (this project's own).
-use Rattle.std.specs.Prelude.{ℕ, ◌-◌, List, ◌++◌, length, take, min, Some, nat_eq, ◌||◌, if◌then◌else◌}
+use Rattle.std.specs.Prelude.{ℕ, ◌-◌, List, ◌++◌, length, take, min, Bool, Some, nat_eq, ◌||◌, if◌then◌else◌}
+use Rattle.std.specs.List.{list_any}
 use Rattle.ps_base.specs.Numbers.{more}
 use Rattle.ps_base.specs.SinkStates.{SinkState}
 use Rattle.ps_base.specs.declared.sink.Taken.{Taken}
 use Rattle.ps_base.specs.declared.sink.Taken.TheVariants as taken
-use Rattle.ps_edge.specs.Tapes.{is_listed}
+
+-- the call with this number is to fail
+abbrev pub is_listed : ℕ → List ℕ → Bool
+is_listed call failing = list_any (λ n. nat_eq n call) failing
 
 pub record Log : Type 0 where
   -- the bytes that were taken

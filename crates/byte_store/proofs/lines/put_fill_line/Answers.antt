@@ -1,9 +1,0 @@
-use Rattle.std.proofs.Common.{w64}
-use Rattle.std.proofs.lemmas.Int.{to_z-of_z}
-use Rattle.ps_base.proofs.Writing.{adds_then}
-use Rattle.byte_store.proofs.lines.put_fill_line.Goals as goal
-
-pub returns : goal.returns
-returns g c =
-    adds_then _ _ _ _ _ _ _ _ c.put-so_far.ensures
-    (adds_then _ _ _ _ _ _ _ _ (rw (to_z-of_z w64 c.args.size c.ranges.size) at c.put_integer-so_far.ensures) (search adds_then depth 12))
