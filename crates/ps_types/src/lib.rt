@@ -1,6 +1,7 @@
 //! Types, and how they are written.
 #![tactic(auto)]
 
+mod firsts;
 mod numbering;
 mod types;
 mod writing;

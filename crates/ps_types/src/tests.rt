@@ -1,47 +1,13 @@
 //! The texts of types, byte for byte, also into a sink that fails in mid-stream, and which records are known.
 
-ghost use Rattle.std.specs.Prelude.{Some, length, refl};
-ghost use Rattle.ps_base.specs.Numbers.{more};
-
 use crate::*;
-use ps_base::{Boxed, Items, Name, Names, NoMemory, Sink, SinkFault, Taken};
+use ps_base::{Boxed, Items, MemorySink, Name, Names, NoMemory, Sink, SinkFault, Taken};
 use std::alloc::Global;
 use std::test::Fail;
 
 // A sink of at most two bytes a call. The call of this number fails, and then it goes on.
-#[derive(Drop)]
-struct Memory {
-    bytes: Vec<u8>,
-    calls: usize,
-    failing: usize,
-    faults: u64,
-}
-
-impl Sink for Memory {
-    ghost shows = { λ s. record { bytes = Some s.bytes.items; number = Some (more 0 (length s.bytes.items)); faults = s.faults } };
-
-    ghost tells_number = { λ _. refl };
-
-    fn write(&mut self, piece: &[u8]) -> Taken {
-        let call = self.calls;
-        self.calls = call.saturating_add(1);
-        let k = piece.len().min(2);
-        let (front, _) = piece.split_at(k);
-        if call == self.failing || self.bytes.extend_from_slice(front).is_err() {
-            self.faults = self.faults.saturating_add(1);
-            return Taken::Failed;
-        }
-        Taken::Bytes(k)
-    }
-}
-
-fn empty_sink(alloc: Global, failing: usize) -> Memory {
-    Memory {
-        bytes: Vec::new(alloc),
-        calls: 0,
-        failing,
-        faults: 0,
-    }
+fn small_sink(alloc: Global, failing: u64) -> Result<MemorySink, NoMemory> {
+    MemorySink::new(alloc, 100, 2, Items::from_slice(alloc, &[failing])?)
 }
 
 fn vector(alloc: Global, item: Ty) -> Result<Ty, NoMemory> {
@@ -118,7 +84,7 @@ fn kinds(alloc: Global) -> Result<Kinds, NoMemory> {
 fn written(
     alloc: Global,
     t: &Ty,
-    out: &mut Memory,
+    out: &mut MemorySink,
 ) -> Result<Option<Result<(), SinkFault>>, NoMemory> {
     let kinds = kinds(alloc)?;
     let names = names(alloc)?;
@@ -129,9 +95,9 @@ fn written(
 }
 
 fn writes(alloc: Global, t: &Ty, text: &[u8]) -> Result<bool, NoMemory> {
-    let mut out = empty_sink(alloc, 99);
+    let mut out = small_sink(alloc, 99)?;
     let answer = written(alloc, t, &mut out)?;
-    Ok(answer == Some(Ok(())) && out.bytes.as_slice() == text)
+    Ok(answer == Some(Ok(())) && out.bytes() == text)
 }
 
 #[test]
@@ -226,19 +192,31 @@ fn stops_at_a_fault(rt: HostRuntime) -> Result<(), Fail> {
         (9, Err(SinkFault), b"<(proc (t0 :p"),
     ];
     for (failing, want, text) in table {
-        let mut out = empty_sink(alloc, failing);
+        let mut out = small_sink(alloc, failing)?;
         assert_eq!(rt; out.write(b"<"), Taken::Bytes(1));
         assert_eq!(rt;
             written(alloc, &t, &mut out)?,
             Some(want),
             "call {failing} fails"
         );
-        assert_eq!(rt; out.bytes.as_slice(), text, "call {failing} fails");
-        assert_eq!(rt;
-            out.faults,
-            if want.is_ok() { 0 } else { 1 },
-            "call {failing} fails"
-        );
+        assert_eq!(rt; out.bytes(), text, "call {failing} fails");
     }
+    Ok(())
+}
+
+// More variables than are numbered by their places: the last one has two places.
+#[test]
+fn numbers_1001_variables(rt: HostRuntime) -> Result<(), Fail> {
+    let alloc = rt.alloc();
+    let mut parameters = Vec::new(alloc);
+    for i in 0..1001u32 {
+        parameters.push(2000 - i)?;
+    }
+    let t = of_variables(alloc, parameters.as_slice(), 1000)?;
+    let mut out = MemorySink::new(alloc, 5000, 5000, Items::new(alloc))?;
+    assert_eq!(rt; written(alloc, &t, &mut out)?, Some(Ok(())));
+    assert_eq!(rt; out.bytes().len(), 4910);
+    assert!(rt; out.bytes().starts_with(b"(proc (t0 t1 t2 "));
+    assert!(rt; out.bytes().ends_with(b" t998 t999 t1000) t1000)"));
     Ok(())
 }

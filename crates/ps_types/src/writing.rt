@@ -3,9 +3,10 @@
 ghost use Rattle.std.specs.Prelude.{◌≡◌, true, map, codes, decimal};
 ghost use Rattle.ps_base.specs.Sinks.{Adds, Writes};
 ghost use Rattle.ps_base.specs.Texts.{◌&◌};
+ghost use Rattle.ps_types.specs.Firsts.{Numbered};
 ghost use Rattle.ps_types.specs.Writing.{variables, all_known, is_known, kind_known, kind_text, space_before, spaced, text_in, type_text};
 
-use crate::numbering::number_of;
+use crate::firsts::{firsts_of, number_in};
 use crate::types::{RecordKind, Ty};
 use ps_base::{Names, Sink, SinkFault, Written, put, put_number};
 
@@ -15,9 +16,9 @@ use ps_base::{Names, Sink, SinkFault, Written, put, put_number};
 ///
 /// Each record's number must be one of `kinds`, and the name there one of the table (`has_known_records`).
 ///
-/// It recurs to the depth of the type. To number a variable it goes over the type up to the variable's first place once
-/// for each different variable before it, and once more, so that a variable takes at most the square of the type's size in
-/// steps. It is meant for types of at most 1,000 constructors and variables.
+/// It recurs to the depth of the type, and is meant for types of at most 1,000 constructors and variables. There each
+/// variable takes at most as many steps as there are different variables before it. To number a variable that comes after
+/// 1,000 different ones, it goes over the type up to the variable's first place once for each different variable before it.
 ///
 /// # Errors
 ///
@@ -32,10 +33,11 @@ pub fn write_type<O: Sink>(
     requires { is_known kinds.now names.now t.now ≡ true }
     ensures { Writes (O.shows out.old) (O.shows out.new) (type_text kinds.now names.now t.now) result }
 {
-    put_type(out, Ok(()), t, t, kinds, names)
+    let firsts = firsts_of(t);
+    put_type(out, Ok(()), t, t, firsts.as_slice(), kinds, names)
 }
 
-// A type within a whole type, which numbers its variables.
+// A type within a whole type, which numbers its variables: the first ones by their places.
 #[cycle(writing)]
 #[tactic(auto, using(ps_base::proofs::Writing::adds_then), unfolding(crate::specs::Writing::text_in))]
 fn put_type<O: Sink>(
@@ -43,10 +45,12 @@ fn put_type<O: Sink>(
     so_far: Written,
     t: &Ty,
     whole: &Ty,
+    firsts: &[u32],
     kinds: &[RecordKind],
     names: &Names,
 ) -> Written
-    requires { is_known kinds.now names.now t.now ≡ true }
+    requires known { is_known kinds.now names.now t.now ≡ true }
+    requires numbered { Numbered (variables whole.now) firsts.now }
     ensures { Adds (O.shows out.old) so_far (O.shows out.new) result (text_in kinds.now names.now (variables whole.now) t.now) }
 {
     match t {
@@ -58,18 +62,26 @@ fn put_type<O: Sink>(
         Ty::Text => put(out, so_far, b"string"),
         Ty::Vector(item) => {
             let so_far = put(out, so_far, b"(vector ");
-            let so_far = put_type(out, so_far, item.get(), whole, kinds, names);
+            let so_far = put_type(out, so_far, item.get(), whole, firsts, kinds, names);
             put(out, so_far, b")")
         }
         Ty::Tuple(kind) => put_record(out, so_far, *kind, kinds, names),
         Ty::Proc(parameters, answer) => {
             let so_far = put(out, so_far, b"(proc (");
-            let so_far = put_types(out, so_far, parameters.as_slice(), whole, kinds, names);
+            let so_far = put_types(
+                out,
+                so_far,
+                parameters.as_slice(),
+                whole,
+                firsts,
+                kinds,
+                names,
+            );
             let so_far = put(out, so_far, b") ");
-            let so_far = put_type(out, so_far, answer.get(), whole, kinds, names);
+            let so_far = put_type(out, so_far, answer.get(), whole, firsts, kinds, names);
             put(out, so_far, b")")
         }
-        Ty::Var(variable) => put_variable(out, so_far, number_of(whole, *variable)),
+        Ty::Var(variable) => put_variable(out, so_far, number_in(firsts, whole, *variable)),
     }
 }
 
@@ -80,16 +92,18 @@ fn put_types<O: Sink>(
     so_far: Written,
     types: &[Ty],
     whole: &Ty,
+    firsts: &[u32],
     kinds: &[RecordKind],
     names: &Names,
 ) -> Written
-    requires { all_known (map (is_known kinds.now names.now) types.now) ≡ true }
+    requires known { all_known (map (is_known kinds.now names.now) types.now) ≡ true }
+    requires numbered { Numbered (variables whole.now) firsts.now }
     ensures { Adds (O.shows out.old) so_far (O.shows out.new) result (spaced (map (text_in kinds.now names.now (variables whole.now)) types.now)) }
 {
     let mut so_far = so_far;
     for (i, t) in types.iter().enumerate() {
         so_far = put_space(out, so_far, i);
-        so_far = put_type(out, so_far, t, whole, kinds, names);
+        so_far = put_type(out, so_far, t, whole, firsts, kinds, names);
     }
     so_far
 }

@@ -16,7 +16,7 @@ put_type-returns-in-Proc g t c = rw (c.in-Proc.is, of_proc c.args.kinds.now c.ar
 pub put_types-put_type-so_far-requires : goal.put_types-put_type-so_far-requires
 put_types-put_type-so_far-requires g t c κs within =
     let smaller : the_size c.index-types-i.result ≤ most the_size c.args.types.now = subst (λ (d : Ty). the_size d ≤ most the_size c.args.types.now) (sym c.index-types-i.is) (at_most the_size c.args.types.now c.loop-i.i c.index-types-i.result c.loop-i-test.true) in
-    (omega arith, (within, known_at (is_known c.args.kinds.now c.args.names.now) c.args.types.now c.loop-i.i c.index-types-i.result c.requires c.loop-i-test.true c.index-types-i.is))
+    (omega arith, (within, (known_at (is_known c.args.kinds.now c.args.names.now) c.args.types.now c.loop-i.i c.index-types-i.result c.requires.known c.loop-i-test.true c.index-types-i.is, c.requires.numbered)))
 
 pub put_types-loop-i-preserved : goal.put_types-loop-i-preserved
 put_types-loop-i-preserved g t c = λ u r h.
