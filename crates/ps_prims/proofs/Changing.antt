@@ -21,6 +21,8 @@ use Rattle.ps_prims.specs.declared.stages.Stage.{Stage}
 use Rattle.ps_prims.specs.declared.stages.Stages.{Stages}
 use Rattle.ps_prims.specs.Sorts.{Sort, Unit', Taking, answered, applied, first_order, fits}
 use Rattle.ps_prims.specs.Rows.{Row, Scene, Act, Performed, Answers, row, changes, perform_row, performed, at_scene, seen_at}
+use Rattle.byte_store.specs.Worlds.{Surroundings}
+use Rattle.ps_prims.specs.Needs.{Events, Takes, Wanting}
 use Rattle.ps_prims.specs.Performing.{Changes, Comes, State}
 use Rattle.ps_prims.specs.Inside.{Changed}
 use Rattle.ps_prims.proofs.Fitting.{applied_none}
@@ -29,12 +31,20 @@ abbrev row_of : (ss : List Sort) → Stages → Taking Value ss (Act Value (Unit
 row_of ss st does = record { operands = ss; answer = Unit'; stages = st; does = does }
 
 pub changes_wrong : (r : Row Value) (vs : List Value) (m : Memory Value) (stage : Stage) (old : List Event) → fits first_order r.operands vs ≡ false → Changes out.Wrong stage m m old old (perform_row first_order r vs)
-changes_wrong r vs m stage old other = λ w. (ap (λ f. performed (answered first_order r.answer) stage (at_scene stage (record { memory = m; world = w }) f)) (applied_none first_order r.operands r.does vs other), refl)
+changes_wrong r vs m stage old other = (tt, λ w. (ap (λ f. performed (answered first_order r.answer) stage (at_scene stage (record { memory = m; world = w }) f)) (applied_none first_order r.operands r.does vs other), refl))
+
+-- memory is wanting for events alone
+wanting : (o : PrimOut) (a : Result (Memory Value) Op) (event : Event) (stage : Stage) (m n : Memory Value) (old new : List Event) → Changed o a event stage m n old new → Wanting o (Takes Events stage)
+wanting (out.Value v) a event stage m n old new h = tt
+wanting (out.Undefined op) a event stage m n old new h = tt
+wanting out.Wrong a event stage m n old new h = tt
+wanting out.NoMemory a event stage m n old new h = h.0
 
 module _ (ss : List Sort) (st : Stages) (does : Taking Value ss (Act Value (Unit {0}))) (vs args : List Value) (m n : Memory Value) (stage : Stage) (old new : List Event) where
-  pub changes_of : (f : Memory Value → Result (Memory Value) Op) (event : Event) (o : PrimOut) →
-      vs ≡ args → applied first_order ss does args ≡ Some (changes f event) → Changed o (f m) event stage m n old new → Changes o stage m n old new (perform_row first_order (row_of ss st does) vs)
-  changes_of f event o is at found w = go o found
+  changes_in : (w : Surroundings) (f : Memory Value → Result (Memory Value) Op) (event : Event) (o : PrimOut) →
+      vs ≡ args → applied first_order ss does args ≡ Some (changes f event) → Changed o (f m) event stage m n old new →
+      Comes o (record { memory = m; world = w; events = old }) (record { memory = n; world = w; events = new }) (perform_row first_order (row_of ss st does) vs stage (record { memory = m; world = w }))
+  changes_in w f event o is at found = go o found
     where
       scene : Scene Value
       scene = record { memory = m; world = w }
@@ -55,7 +65,11 @@ module _ (ss : List Sort) (st : Stages) (does : Taking Value ss (Act Value (Unit
       go (out.Value v) h = (seen_at stage (event ∷ []), goes_on (Ok n) h.1 ∙ ap (λ u. Answers (record { answer = u; memory = n; world = w; events = seen_at stage (event ∷ []) })) (sym h.0), h.2)
       go (out.Undefined op) h = (goes_on (Err op) h.0, same h.1 h.2)
       go out.Wrong h = absurd h
-      go out.NoMemory h = same h.0 h.1
+      go out.NoMemory h = same h.1 h.2
+
+  pub changes_of : (f : Memory Value → Result (Memory Value) Op) (event : Event) (o : PrimOut) →
+      vs ≡ args → applied first_order ss does args ≡ Some (changes f event) → Changed o (f m) event stage m n old new → Changes o stage m n old new (perform_row first_order (row_of ss st does) vs)
+  changes_of f event o is at found = (wanting o (f m) event stage m n old new found, λ w. changes_in w f event o is at found)
 
 module _ (vs : List Value) (m n : Memory Value) (stage : Stage) (old new : List Event) (o : PrimOut) where
   pub vector_set_changes : (p : Pointer) (k : ℤ) (x : Value) → vs ≡ value.Vector p ∷ value.Integer k ∷ x ∷ [] →

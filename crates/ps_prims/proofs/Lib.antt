@@ -7,3 +7,5 @@ pub mod Further
 pub mod Changing
 pub mod Making
 pub mod Worldly
+mod Dividing
+mod Shifts

@@ -22,10 +22,12 @@ use Rattle.ps_prims.specs.declared.outcome.PrimOut.TheVariants as out
 use Rattle.ps_prims.specs.declared.stages.Stage.{Stage}
 use Rattle.ps_prims.specs.declared.stages.Stage.TheVariants.{Compile, Run}
 use Rattle.ps_prims.specs.Sorts.{Meant, answered, applied, first_order, fits}
-use Rattle.ps_prims.specs.Rows.{fixes, Row, Scene, Act, Done, Answers, row, makes, vector_of, appended, perform_row, performed, at_scene, seen_at}
+use Rattle.ps_prims.specs.Rows.{fixes, finds, unseen, equal_texts, Row, Scene, Act, Done, Answers, row, makes, vector_of, appended, perform_row, performed, at_scene, seen_at}
 use Rattle.ps_prims.specs.Performing.{Comes, State, state}
-use Rattle.ps_prims.specs.Inside.{Makes, Acts, Fixes, vector_block, string_block}
+use Rattle.ps_prims.specs.Needs.{Blocks, HasNumber, HasRoom}
+use Rattle.ps_prims.specs.Inside.{Makes, Acts, Fixes, FoundInCopies, vector_block, string_block}
 use Rattle.ps_prims.proofs.Fitting.{applied_none}
+use Rattle.ps_prims.proofs.Looking.{nothing_added}
 
 -- a row that its operands do not fit is wrong, whatever there is
 pub comes_wrong : (r : Row Value) (vs : List Value) (stage : Stage) (s : State) → fits first_order r.operands vs ≡ false → Comes out.Wrong s s (perform_row first_order r vs stage (record { memory = s.memory; world = s.world }))
@@ -128,3 +130,20 @@ string_comes vs p q o m n w es is h =
 pub filled_is : {A : Type 0} (n : ℕ) (x : A) → map Some (replicate n x) ≡ replicate n (Some x)
 filled_is zero x = refl
 filled_is (suc n) x = ap (λ l. Some x ∷ l) (filled_is n x)
+
+-- what is found in copies
+copies_act : {X : Type 0} (o : PrimOut) (of : X → Value) (look : Memory Value → Result X Op) (stage : Stage) (s : State) → FoundInCopies o (look s.memory) of → Acts o of stage (finds look (λ x. unseen x) stage (record { memory = s.memory; world = s.world })) s s
+copies_act (out.Value v) of look stage s f = (f.0, [], ap (λ r. and_then r (λ x. Ok (record { answer = x; memory = s.memory; world = s.world; events = [] }))) f.1, f.2, sym (nothing_added stage s.events))
+copies_act (out.Undefined op) of look stage s f = (ap (λ r. and_then r (λ x. Ok (record { answer = x; memory = s.memory; world = s.world; events = [] }))) f, refl)
+copies_act out.Wrong of look stage s f = absurd f
+copies_act out.NoMemory of look stage s f = refl
+
+pub string_equal_comes : (vs : List Value) (p q : Pointer) (o : PrimOut) (stage : Stage) (m : Memory Value) (w : Surroundings) (es : List Event) → vs ≡ value.Text p ∷ value.Text q ∷ [] →
+    FoundInCopies o (equal_texts m p q) (λ b. value.Boolean b) → Comes o (state m w es) (state m w es) (perform_row first_order (row first_order prims.StringEqual) vs stage (record { memory = m; world = w }))
+string_equal_comes vs p q o stage m w es is found =
+    comes_of (row first_order prims.StringEqual) vs (value.Text p ∷ value.Text q ∷ []) stage (state m w es) (state m w es) (finds (λ m. equal_texts m p q) (λ x. unseen x)) o is refl (copies_act o (λ b. value.Boolean b) (λ m. equal_texts m p q) stage (state m w es) found)
+
+-- where a block is made there is a number for it
+pub room_for_block : (stage : Stage) (m : Memory Value) → HasRoom Blocks stage m → HasNumber stage m
+room_for_block Compile m h = h
+room_for_block Run m h = h refl

@@ -7,12 +7,15 @@ use Rattle.ps_prims.specs.declared.groups.Plain.{Plain}
 use Rattle.ps_prims.specs.declared.groups.Plain.TheVariants as plain
 use Rattle.ps_prims.specs.declared.groups.Look.{Look}
 use Rattle.ps_prims.specs.declared.groups.Look.TheVariants as look
+use Rattle.ps_prims.specs.declared.groups.Glance.{Glance}
+use Rattle.ps_prims.specs.declared.groups.Glance.TheVariants as glance
 use Rattle.ps_prims.specs.declared.groups.Change.{Change}
 use Rattle.ps_prims.specs.declared.groups.Change.TheVariants as change
 use Rattle.ps_prims.specs.declared.groups.Make.{Make}
 use Rattle.ps_prims.specs.declared.groups.Make.TheVariants as make
 use Rattle.ps_prims.specs.Sorts.{first_order}
 use Rattle.ps_prims.specs.Rows.{Row, row, arithmetic, comparison, test}
+use Rattle.ps_prims.specs.Needs.{Need, Nothing, Events, Blocks}
 use Rattle.ps_prims.specs.Inside.{calculated, divided, shifted, compared, tested}
 
 abbrev pub plain_row : Plain → Row Value
@@ -30,16 +33,17 @@ abbrev pub look_row : Look → Row Value
 look_row look.StringLength = row first_order prims.StringLength
 look_row look.StringRef = row first_order prims.StringRef
 look_row look.VectorRef = row first_order prims.VectorRef
-look_row look.IsNullVector = row first_order prims.IsNullVector
-look_row look.IsNullAddress = row first_order prims.IsNullAddress
 look_row look.ByteRef = row first_order prims.UnsignedByteRef
 look_row look.WordRef = row first_order prims.WordRef
-look_row look.AddressAdd = row first_order prims.AddressAdd
-look_row look.AddressDifference = row first_order prims.AddressDifference
-look_row look.AddressEqual = row first_order prims.AddressEqual
-look_row look.AddressLess = row first_order prims.AddressLess
-look_row look.StringEqual = row first_order prims.StringEqual
-look_row look.VectorLength = row first_order prims.VectorLength
+
+abbrev pub glance_row : Glance → Row Value
+glance_row glance.IsNullVector = row first_order prims.IsNullVector
+glance_row glance.IsNullAddress = row first_order prims.IsNullAddress
+glance_row glance.AddressAdd = row first_order prims.AddressAdd
+glance_row glance.AddressDifference = row first_order prims.AddressDifference
+glance_row glance.AddressEqual = row first_order prims.AddressEqual
+glance_row glance.AddressLess = row first_order prims.AddressLess
+glance_row glance.VectorLength = row first_order prims.VectorLength
 
 abbrev pub change_row : Change → Row Value
 change_row change.VectorSet = row first_order prims.VectorSet
@@ -52,6 +56,7 @@ abbrev pub make_row : Make → Row Value
 make_row make.Vector = row first_order prims.MakeVector
 make_row make.Memory = row first_order prims.AllocateMemory
 make_row make.String = row first_order prims.StringAppend
+make_row make.StringEqual = row first_order prims.StringEqual
 
 abbrev pub group_row : Group → Row Value
 group_row (groups.Arithmetic o) = arithmetic first_order (calculated o)
@@ -61,7 +66,22 @@ group_row (groups.Comparison o) = comparison first_order (compared o)
 group_row (groups.Sign o) = test first_order (tested o)
 group_row (groups.Plain o) = plain_row o
 group_row (groups.Look o) = look_row o
+group_row (groups.Glance o) = glance_row o
 group_row (groups.Change o) = change_row o
 group_row (groups.Make o) = make_row o
 group_row groups.ReadByte = row first_order prims.ReadByte
 group_row groups.WriteByte = row first_order prims.WriteByte
+
+abbrev pub group_need : Group → Need
+group_need (groups.Arithmetic o) = Nothing
+group_need (groups.Division o) = Nothing
+group_need (groups.Shift o) = Nothing
+group_need (groups.Comparison o) = Nothing
+group_need (groups.Sign o) = Nothing
+group_need (groups.Plain o) = Nothing
+group_need (groups.Look o) = Events
+group_need (groups.Glance o) = Nothing
+group_need (groups.Change o) = Events
+group_need (groups.Make o) = Blocks
+group_need groups.ReadByte = Events
+group_need groups.WriteByte = Events

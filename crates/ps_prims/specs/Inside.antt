@@ -25,6 +25,7 @@ use Rattle.byte_store.specs.Worlds.{Surroundings, next_grant}
 use Rattle.byte_store.specs.declared.pointer.Pointer.{Pointer}
 use Rattle.byte_store.specs.declared.pointer.Pointer.TheVariants.{Null, At}
 use Rattle.byte_store.specs.declared.pointer.Base.TheVariants.{Fixed, Made}
+use Rattle.ps_prims.specs.Needs.{Events, Takes}
 use Rattle.ps_prims.specs.Performing.{State}
 use Rattle.ps_prims.specs.declared.stages.Stage.{Stage}
 use Rattle.ps_prims.specs.Rows.{Done, seen_at, fitting, dividing, modulo, shifting, logical_shr, is_zero, is_negative}
@@ -71,33 +72,40 @@ char_out (Err op) = out.Undefined op
 
 -- ---- what is seen from outside
 
--- the answer is this one and these events were added, or memory for them ran out
-abbrev pub Tells : PrimOut → Value → List Event → List Event → List Event → Type 0
-Tells (out.Value x) v es old new = (x ≡ v) × (new ≡ old ++ es)
-Tells (out.Undefined op) v es old new = ⊥
-Tells out.Wrong v es old new = ⊥
-Tells out.NoMemory v es old new = new ≡ old
+-- the answer is this one and these events were seen, or memory for them ran out
+abbrev pub Tells : PrimOut → Value → List Event → Stage → List Event → List Event → Type 0
+Tells (out.Value x) v es stage old new = (x ≡ v) × (new ≡ old ++ seen_at stage es)
+Tells (out.Undefined op) v es stage old new = ⊥
+Tells out.Wrong v es stage old new = ⊥
+Tells out.NoMemory v es stage old new = Takes Events stage × (new ≡ old)
 
--- what was found is the answer, and its events were added; or there is a cause, or memory ran out
-abbrev pub Found : {X : Type 0} → PrimOut → Result X Op → (X → Value) → (X → List Event) → List Event → List Event → Type 0
-Found {X} (out.Value v) a of tell old new = (x : X) × (a ≡ Ok x) × (v ≡ of x) × (new ≡ old ++ tell x)
-Found (out.Undefined op) a of tell old new = (a ≡ Err op) × (new ≡ old)
-Found out.Wrong a of tell old new = ⊥
-Found out.NoMemory a of tell old new = new ≡ old
+-- what was found is the answer, and its events were seen; or there is a cause, or memory for them ran out
+abbrev pub Found : {X : Type 0} → PrimOut → Result X Op → (X → Value) → (X → List Event) → Stage → List Event → List Event → Type 0
+Found {X} (out.Value v) a of tell stage old new = (x : X) × (a ≡ Ok x) × (v ≡ of x) × (new ≡ old ++ seen_at stage (tell x))
+Found (out.Undefined op) a of tell stage old new = (a ≡ Err op) × (new ≡ old)
+Found out.Wrong a of tell stage old new = ⊥
+Found out.NoMemory a of tell stage old new = Takes Events stage × (new ≡ old)
 
 -- the same of what is not seen from outside
 abbrev pub FoundQuietly : {X : Type 0} → PrimOut → Result X Op → (X → Value) → Type 0
 FoundQuietly {X} (out.Value v) a of = (x : X) × (a ≡ Ok x) × (v ≡ of x)
 FoundQuietly (out.Undefined op) a of = a ≡ Err op
 FoundQuietly out.Wrong a of = ⊥
-FoundQuietly out.NoMemory a of = Unit {0}
+FoundQuietly out.NoMemory a of = ⊥
+
+-- the same of what is found in copies, for which memory may run out
+abbrev pub FoundInCopies : {X : Type 0} → PrimOut → Result X Op → (X → Value) → Type 0
+FoundInCopies {X} (out.Value v) a of = (x : X) × (a ≡ Ok x) × (v ≡ of x)
+FoundInCopies (out.Undefined op) a of = a ≡ Err op
+FoundInCopies out.Wrong a of = ⊥
+FoundInCopies out.NoMemory a of = Unit {0}
 
 -- the memory was changed, and this was seen; or there is a cause, or memory ran out
 abbrev pub Changed : PrimOut → Result (Memory Value) Op → Event → Stage → Memory Value → Memory Value → List Event → List Event → Type 0
 Changed (out.Value v) answer event stage m m' old new = (v ≡ value.Unit) × (answer ≡ Ok m') × (new ≡ old ++ seen_at stage (event ∷ []))
 Changed (out.Undefined op) answer event stage m m' old new = (answer ≡ Err op) × (m' ≡ m) × (new ≡ old)
 Changed out.Wrong answer event stage m m' old new = ⊥
-Changed out.NoMemory answer event stage m m' old new = (m' ≡ m) × (new ≡ old)
+Changed out.NoMemory answer event stage m m' old new = Takes Events stage × (m' ≡ m) × (new ≡ old)
 
 -- where the next made block begins, or null where it is refused
 abbrev pub next_pointer : {C : Type 0} → Memory C → Surroundings → Pointer

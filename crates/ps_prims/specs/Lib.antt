@@ -1,5 +1,8 @@
 pub mod Sorts
 pub mod Rows
+pub mod Needs
+pub mod Division
+pub mod Shifting
 pub mod Inside
 pub mod Performing
 pub mod Groups

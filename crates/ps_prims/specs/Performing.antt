@@ -1,15 +1,16 @@
 -- What a call of `perform` has to do with the row.
-use Rattle.std.specs.Prelude.{◌≡◌, List, [], ◌++◌, length, ◌<◌}
+use Rattle.std.specs.Prelude.{◌≡◌, List, [], ◌++◌}
 use Rattle.byte_store.specs.declared.event.Event.{Event}
 use Rattle.byte_store.specs.declared.pointer.Value.{Value}
 use Rattle.byte_store.specs.Worlds.{Surroundings}
-use Rattle.byte_store.specs.Blocks.{Memory, next_number}
+use Rattle.byte_store.specs.Blocks.{Memory}
 use Rattle.ps_prims.specs.declared.outcome.PrimOut.{PrimOut}
 use Rattle.ps_prims.specs.declared.outcome.PrimOut.TheVariants as out
 use Rattle.ps_prims.specs.declared.stages.Stage.{Stage}
 use Rattle.ps_prims.specs.declared.stages.Stages.{Stages}
 use Rattle.ps_prims.specs.declared.stages.Stage.TheVariants.{Compile, Run}
 use Rattle.ps_prims.specs.declared.stages.Stages.TheVariants.{Both, CompileOnly, RunOnly}
+use Rattle.ps_prims.specs.Needs.{Events, Takes, Wanting}
 use Rattle.ps_prims.specs.Rows.{Performed, Answers, Undefined, Wrong, Scene}
 
 -- a row belongs to a stage
@@ -19,11 +20,6 @@ Belongs CompileOnly Compile = Unit {0}
 Belongs CompileOnly Run = ⊥
 Belongs RunOnly Compile = ⊥
 Belongs RunOnly Run = Unit {0}
-
--- there is room for the block that a primitive may make at the stage
-abbrev pub HasRoom : Stage → Memory Value → Type 0
-HasRoom Compile m = next_number m.fixed < 4294967295
-HasRoom Run m = length m.made < 4294967295
 
 -- memory, world and the list of events, which a call may change
 pub record State : Type 0 where
@@ -43,6 +39,13 @@ Comes (out.Undefined op) old new p = (p ≡ Undefined op) × (new ≡ old)
 Comes out.Wrong old new p = (p ≡ Wrong) × (new ≡ old)
 Comes out.NoMemory old new p = new ≡ old
 
+-- The same, where memory is wanting only if this holds.
+abbrev pub Performs : Type 0 → PrimOut → State → State → Performed Value → Type 0
+Performs takes (out.Value v) old new p = Comes (out.Value v) old new p
+Performs takes (out.Undefined op) old new p = Comes (out.Undefined op) old new p
+Performs takes out.Wrong old new p = Comes out.Wrong old new p
+Performs takes out.NoMemory old new p = takes × Comes out.NoMemory old new p
+
 -- The same of what neither changes nor shows anything: the answer or the cause is that at each stage and in each scene.
 abbrev pub Quiet : PrimOut → (Stage → Scene Value → Performed Value) → Type 0
 Quiet (out.Value v) act = (stage : Stage) (s : Scene Value) → act stage s ≡ Answers (record { answer = v; memory = s.memory; world = s.world; events = [] })
@@ -50,16 +53,16 @@ Quiet (out.Undefined op) act = (stage : Stage) (s : Scene Value) → act stage s
 Quiet out.Wrong act = (stage : Stage) (s : Scene Value) → act stage s ≡ Wrong
 Quiet out.NoMemory act = ⊥
 
--- the same of what changes no memory and no world
+-- the same of what changes no memory and no world, and takes memory for its events alone
 abbrev pub Looks : PrimOut → Stage → Memory Value → List Event → List Event → (Stage → Scene Value → Performed Value) → Type 0
-Looks o stage m old new act = (w : Surroundings) →
-    Comes o (record { memory = m; world = w; events = old }) (record { memory = m; world = w; events = new }) (act stage (record { memory = m; world = w }))
+Looks o stage m old new act = Wanting o (Takes Events stage) × ((w : Surroundings) →
+    Comes o (record { memory = m; world = w; events = old }) (record { memory = m; world = w; events = new }) (act stage (record { memory = m; world = w })))
 
--- the same of what is not seen from outside
+-- the same of what is not seen from outside, and so takes no memory
 abbrev pub LooksQuietly : PrimOut → Memory Value → (Stage → Scene Value → Performed Value) → Type 0
 LooksQuietly o m act = (stage : Stage) (events : List Event) → Looks o stage m events events act
 
--- the same of what changes no world
+-- the same of what changes no world, and takes memory for its events alone
 abbrev pub Changes : PrimOut → Stage → Memory Value → Memory Value → List Event → List Event → (Stage → Scene Value → Performed Value) → Type 0
-Changes o stage m m' old new act = (w : Surroundings) →
-    Comes o (record { memory = m; world = w; events = old }) (record { memory = m'; world = w; events = new }) (act stage (record { memory = m; world = w }))
+Changes o stage m m' old new act = Wanting o (Takes Events stage) × ((w : Surroundings) →
+    Comes o (record { memory = m; world = w; events = old }) (record { memory = m'; world = w; events = new }) (act stage (record { memory = m; world = w })))

@@ -3,7 +3,8 @@
 ghost use Rattle.std.specs.Prelude.{◌≡◌};
 ghost use Rattle.ps_prims.specs.Sorts.{first_order};
 ghost use Rattle.ps_prims.specs.Rows.{row};
-ghost use Rattle.ps_prims.specs.Groups.{group_row};
+ghost use Rattle.ps_prims.specs.Needs.{need};
+ghost use Rattle.ps_prims.specs.Groups.{group_need, group_row};
 
 use crate::numbers::{Arithmetic, Comparison, Division, Shift, Sign};
 use ps_base::Prim;
@@ -18,6 +19,7 @@ pub enum Group {
     Sign(Sign),
     Plain(Plain),
     Look(Look),
+    Glance(Glance),
     Change(Change),
     Make(Make),
     ReadByte,
@@ -38,21 +40,25 @@ pub enum Plain {
     NullAddress,
 }
 
-/// A primitive that looks at the memory.
+/// A primitive that looks at the memory, which is seen from outside.
 #[derive(Clone, Copy)]
 pub enum Look {
     StringLength,
     StringRef,
     VectorRef,
-    IsNullVector,
-    IsNullAddress,
     ByteRef,
     WordRef,
+}
+
+/// A primitive that looks at the memory, which is not seen from outside.
+#[derive(Clone, Copy)]
+pub enum Glance {
+    IsNullVector,
+    IsNullAddress,
     AddressAdd,
     AddressDifference,
     AddressEqual,
     AddressLess,
-    StringEqual,
     VectorLength,
 }
 
@@ -66,17 +72,19 @@ pub enum Change {
     WordSet,
 }
 
-/// A primitive that makes a block.
+/// A primitive that makes a block, or copies strings.
 #[derive(Clone, Copy)]
 pub enum Make {
     Vector,
     Memory,
     String,
+    StringEqual,
 }
 
 /// The group of a primitive.
 pub fn group_of(p: Prim) -> Group
-    ensures { row first_order p ≡ group_row result }
+    ensures row { row first_order p ≡ group_row result }
+    ensures need { need p ≡ group_need result }
 {
     match p {
         Prim::Add => Group::Arithmetic(Arithmetic::Add),
@@ -112,24 +120,24 @@ pub fn group_of(p: Prim) -> Group
         Prim::MakeVector => Group::Make(Make::Vector),
         Prim::VectorRef => Group::Look(Look::VectorRef),
         Prim::VectorSet => Group::Change(Change::VectorSet),
-        Prim::IsNullVector => Group::Look(Look::IsNullVector),
+        Prim::IsNullVector => Group::Glance(Glance::IsNullVector),
         Prim::DeallocateVector => Group::Change(Change::DeallocateVector),
         Prim::ReadByte => Group::ReadByte,
         Prim::WriteByte => Group::WriteByte,
         Prim::NullAddress => Group::Plain(Plain::NullAddress),
-        Prim::IsNullAddress => Group::Look(Look::IsNullAddress),
+        Prim::IsNullAddress => Group::Glance(Glance::IsNullAddress),
         Prim::AllocateMemory => Group::Make(Make::Memory),
         Prim::DeallocateMemory => Group::Change(Change::DeallocateMemory),
         Prim::UnsignedByteRef => Group::Look(Look::ByteRef),
         Prim::UnsignedByteSet => Group::Change(Change::ByteSet),
         Prim::WordRef => Group::Look(Look::WordRef),
         Prim::WordSet => Group::Change(Change::WordSet),
-        Prim::AddressAdd => Group::Look(Look::AddressAdd),
-        Prim::AddressDifference => Group::Look(Look::AddressDifference),
-        Prim::AddressEqual => Group::Look(Look::AddressEqual),
-        Prim::AddressLess => Group::Look(Look::AddressLess),
+        Prim::AddressAdd => Group::Glance(Glance::AddressAdd),
+        Prim::AddressDifference => Group::Glance(Glance::AddressDifference),
+        Prim::AddressEqual => Group::Glance(Glance::AddressEqual),
+        Prim::AddressLess => Group::Glance(Glance::AddressLess),
         Prim::StringAppend => Group::Make(Make::String),
-        Prim::StringEqual => Group::Look(Look::StringEqual),
-        Prim::VectorLength => Group::Look(Look::VectorLength),
+        Prim::StringEqual => Group::Make(Make::StringEqual),
+        Prim::VectorLength => Group::Glance(Glance::VectorLength),
     }
 }

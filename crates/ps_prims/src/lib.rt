@@ -2,7 +2,9 @@
 #![tactic(auto)]
 
 mod changes;
+mod glances;
 mod groups;
+mod laws;
 mod looks;
 mod makes;
 mod numbers;
@@ -16,6 +18,7 @@ mod stages;
 mod table;
 mod telling;
 
+pub use laws::{divisions_are_rounded, shifts_round_down};
 pub use outcome::PrimOut;
 pub use performing::perform;
 pub use schemes::scheme_of;

@@ -1,9 +1,10 @@
-//! Primitives that make a block.
+//! Primitives that make a block, or copy strings.
 
 ghost use Rattle.std.specs.Prelude.{◌≡◌, List, IfOk, ◌<◌, [], ◌∷◌, ◌++◌, length, map, replicate, Some, true};
 ghost use Rattle.byte_store.specs.declared.event.Event.{Event as EventSpec};
 ghost use Rattle.byte_store.specs.Worlds.{Surroundings};
 ghost use Rattle.ps_prims.specs.declared.stages.Stage.TheVariants as Stage;
+ghost use Rattle.ps_prims.specs.declared.stages.Stage.{Stage as StageSpec};
 ghost use Rattle.byte_store.specs.declared.event.Event.TheVariants as Event;
 ghost use Rattle.byte_store.specs.declared.pointer.Value.TheVariants as Value;
 ghost use Rattle.byte_store.specs.Blocks.{next_number};
@@ -11,10 +12,11 @@ ghost use Rattle.byte_store.specs.Operations.{allocate, allocate_cells};
 ghost use Rattle.byte_store.specs.Words.{word_of};
 ghost use Rattle.ps_base.specs.declared.language.PrimName.TheVariants as PrimName;
 ghost use Rattle.ps_prims.specs.Sorts.{first_order};
-ghost use Rattle.ps_prims.specs.Rows.{appended, perform_row, row, vector_of};
+ghost use Rattle.ps_prims.specs.Rows.{appended, equal_texts, perform_row, row, vector_of};
 ghost use Rattle.ps_prims.specs.Groups.{make_row};
-ghost use Rattle.ps_prims.specs.Inside.{Fixes, Makes, next_pointer, string_block, vector_block};
-ghost use Rattle.ps_prims.specs.Performing.{Belongs, Comes, HasRoom, state};
+ghost use Rattle.ps_prims.specs.Needs.{HasNumber};
+ghost use Rattle.ps_prims.specs.Inside.{Fixes, FoundInCopies, Makes, next_pointer, string_block, vector_block};
+ghost use Rattle.ps_prims.specs.Performing.{Belongs, Comes, state};
 
 use crate::groups::Make;
 use crate::operands::{integer_and_any, one_integer, two_texts};
@@ -168,7 +170,7 @@ fn perform_make_vector<A: Allocator + Copy>(
     world: &mut World,
     events: &mut Events,
 ) -> PrimOut
-    requires room { HasRoom stage store.old }
+    requires room { HasNumber stage store.old }
     ensures { Comes result (state store.old world.old events.old) (state store.new world.new events.new) (perform_row first_order (row first_order PrimName.MakeVector) args.now stage (record { memory = store.old; world = world.old })) }
 {
     let Some((count, fill)) = integer_and_any(args) else {
@@ -211,7 +213,40 @@ fn perform_string_append<A: Allocator + Copy>(
     }
 }
 
-/// Performs a primitive that makes a block.
+// Whether two strings have the same bytes, found in copies.
+fn found_string_equal<A: Allocator + Copy>(
+    alloc: Global,
+    p: Pointer,
+    q: Pointer,
+    store: &Store<Value, A>,
+) -> PrimOut
+    ensures { FoundInCopies result (equal_texts store.now p q) (λ b. Value.Boolean b) }
+{
+    let a = match store.text(alloc, p) {
+        Ok(a) => a,
+        Err(fault) => return fault_out(fault),
+    };
+    match store.text(alloc, q) {
+        Ok(b) => PrimOut::Value(Value::Boolean(a.as_slice() == b.as_slice())),
+        Err(fault) => fault_out(fault),
+    }
+}
+
+#[tactic(auto, using(crate::proofs::Making::string_equal_comes, crate::proofs::Making::comes_wrong))]
+fn perform_string_equal<A: Allocator + Copy>(
+    alloc: Global,
+    args: &[Value],
+    store: &Store<Value, A>,
+) -> PrimOut
+    ensures { (stage : StageSpec) (world : Surroundings) (events : List EventSpec) → Comes result (state store.now world events) (state store.now world events) (perform_row first_order (row first_order PrimName.StringEqual) args.now stage (record { memory = store.now; world = world })) }
+{
+    match two_texts(args) {
+        Some((p, q)) => found_string_equal(alloc, p, q, store),
+        None => PrimOut::Wrong,
+    }
+}
+
+/// Performs a primitive that makes a block, or copies strings.
 pub fn perform_make<A: Allocator + Copy>(
     alloc: Global,
     p: Make,
@@ -222,7 +257,7 @@ pub fn perform_make<A: Allocator + Copy>(
     events: &mut Events,
 ) -> PrimOut
     requires belongs { Belongs (make_row p).stages stage }
-    requires room { HasRoom stage store.old }
+    requires room { HasNumber stage store.old }
     ensures { Comes result (state store.old world.old events.old) (state store.new world.new events.new) (perform_row first_order (make_row p) args.now stage (record { memory = store.old; world = world.old })) }
 {
     match (p, stage) {
@@ -231,5 +266,6 @@ pub fn perform_make<A: Allocator + Copy>(
         (Make::Memory, Stage::Compile) => unreachable!(),
         (Make::String, Stage::Compile) => perform_string_append(alloc, args, store),
         (Make::String, Stage::Run) => unreachable!(),
+        (Make::StringEqual, _) => perform_string_equal(alloc, args, store),
     }
 }

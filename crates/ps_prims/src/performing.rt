@@ -9,12 +9,14 @@ ghost use Rattle.byte_store.specs.Blocks.{Memory};
 ghost use Rattle.byte_store.specs.Worlds.{Surroundings};
 ghost use Rattle.ps_base.specs.declared.language.PrimName.TheVariants as PrimName;
 ghost use Rattle.ps_prims.specs.Sorts.{first_order};
-ghost use Rattle.ps_prims.specs.Rows.{byte_of, perform, perform_row, reads, row, seen_at};
+ghost use Rattle.ps_prims.specs.Rows.{byte_of, perform, perform_row, reads, row};
 ghost use Rattle.ps_prims.specs.Inside.{Acts, Found};
-ghost use Rattle.ps_prims.specs.Groups.{group_row};
-ghost use Rattle.ps_prims.specs.Performing.{Belongs, Comes, HasRoom, Quiet, state};
+ghost use Rattle.ps_prims.specs.Groups.{group_need, group_row};
+ghost use Rattle.ps_prims.specs.Needs.{HasRoom, Takes, Wanting, need};
+ghost use Rattle.ps_prims.specs.Performing.{Belongs, Comes, Performs, Quiet, state};
 
 use crate::changes::perform_change;
+use crate::glances::perform_glance;
 use crate::groups::{Group, group_of};
 use crate::looks::perform_look;
 use crate::makes::perform_make;
@@ -59,7 +61,7 @@ fn perform_read_byte(
 
 #[tactic(auto, using(crate::proofs::Looking::found_told))]
 fn put_byte(i: i64, stage: Stage, events: &mut Events) -> PrimOut
-    ensures { Found result (byte_of i) (λ b. Value.Unit) (λ b. seen_at stage (Event.Output b ∷ [])) events.old events.new }
+    ensures { Found result (byte_of i) (λ b. Value.Unit) (λ b. Event.Output b ∷ []) stage events.old events.new }
 {
     match byte(i) {
         Ok(b) => told(events, stage, Event::Output(b), Value::Unit),
@@ -89,8 +91,9 @@ fn perform_group<A: Allocator + Copy>(
     events: &mut Events,
 ) -> PrimOut
     requires belongs { Belongs (group_row p).stages stage }
-    requires room { HasRoom stage store.old }
-    ensures { Comes result (state store.old world.old events.old) (state store.new world.new events.new) (perform_row first_order (group_row p) args.now stage (record { memory = store.old; world = world.old })) }
+    requires room { HasRoom (group_need p) stage store.old }
+    ensures row { Comes result (state store.old world.old events.old) (state store.new world.new events.new) (perform_row first_order (group_row p) args.now stage (record { memory = store.old; world = world.old })) }
+    ensures memory { Wanting result (Takes (group_need p) stage) }
 {
     match p {
         Group::Arithmetic(operation) => perform_arithmetic(operation, args),
@@ -99,7 +102,8 @@ fn perform_group<A: Allocator + Copy>(
         Group::Comparison(order) => perform_comparison(order, args),
         Group::Sign(sign) => perform_test(sign, args),
         Group::Plain(p) => perform_plain(p, args),
-        Group::Look(p) => perform_look(alloc, p, args, stage, store, events),
+        Group::Look(p) => perform_look(p, args, stage, store, events),
+        Group::Glance(p) => perform_glance(p, args, store),
         Group::Change(p) => perform_change(p, args, stage, store, events),
         Group::Make(p) => perform_make(alloc, p, args, stage, store, world, events),
         Group::ReadByte => perform_read_byte(args, stage, world, events),
@@ -108,11 +112,14 @@ fn perform_group<A: Allocator + Copy>(
 }
 
 /// Performs a primitive at these operands, which must belong to the stage. At run time what is seen from outside is added to
-/// the events, and at compile time nothing is. A block that it makes is a fixed one at compile time, the next one, and its
-/// number must be below 4,294,967,295; at run time it is a made one, which uses a grant, and fewer than 4,294,967,295 blocks
-/// must be made.
+/// the events, and at compile time nothing is. A block that it makes is a fixed one at compile time, the next one, and at run
+/// time a made one, which uses a grant.
 ///
-/// After all answers but a value, nothing is changed.
+/// At compile time the number of the next fixed block must be below 4,294,967,295, whatever the primitive. At run time fewer
+/// than 4,294,967,295 blocks must be made, if the primitive makes one.
+///
+/// After all answers but a value, nothing is changed. `NoMemory` comes only where memory is taken: for an event at run time,
+/// for a block, or for the copies of strings that are appended or compared.
 pub fn perform<A: Allocator + Copy>(
     alloc: Global,
     p: Prim,
@@ -123,8 +130,8 @@ pub fn perform<A: Allocator + Copy>(
     events: &mut Events,
 ) -> PrimOut
     requires belongs { Belongs (row first_order p).stages stage }
-    requires room { HasRoom stage store.old }
-    ensures { Comes result (state store.old world.old events.old) (state store.new world.new events.new) (perform first_order p args.now stage (record { memory = store.old; world = world.old })) }
+    requires room { HasRoom (need p) stage store.old }
+    ensures { Performs (Takes (need p) stage) result (state store.old world.old events.old) (state store.new world.new events.new) (perform first_order p args.now stage (record { memory = store.old; world = world.old })) }
 {
     perform_group(alloc, group_of(p), args, stage, store, world, events)
 }

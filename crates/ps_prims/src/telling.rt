@@ -2,6 +2,7 @@
 
 ghost use Rattle.std.specs.Prelude.{◌≡◌, List, [], ◌∷◌, ◌++◌, MatchResult};
 ghost use Rattle.ps_prims.specs.Rows.{seen_at};
+ghost use Rattle.ps_prims.specs.Needs.{Events, Takes};
 ghost use Rattle.ps_prims.specs.Inside.{Tells};
 
 use crate::outcome::PrimOut;
@@ -12,7 +13,7 @@ use ps_base::NoMemory;
 /// Adds an event, at run time.
 #[tactic(auto, using(crate::proofs::Appending::and_nothing))]
 pub fn tell(events: &mut Events, stage: Stage, event: Event) -> Result<(), NoMemory>
-    ensures { MatchResult result (λ done. events.new ≡ events.old ++ seen_at stage (event ∷ [])) (λ e. events.new ≡ events.old) }
+    ensures { MatchResult result (λ done. events.new ≡ events.old ++ seen_at stage (event ∷ [])) (λ e. Takes Events stage × (events.new ≡ events.old)) }
 {
     match stage {
         Stage::Compile => Ok(()),
@@ -25,7 +26,7 @@ pub fn tell(events: &mut Events, stage: Stage, event: Event) -> Result<(), NoMem
 
 /// Adds an event, at run time, and answers.
 pub fn told(events: &mut Events, stage: Stage, event: Event, answer: Value) -> PrimOut
-    ensures { Tells result answer (seen_at stage (event ∷ [])) events.old events.new }
+    ensures { Tells result answer (event ∷ []) stage events.old events.new }
 {
     match tell(events, stage, event) {
         Ok(()) => PrimOut::Value(answer),
