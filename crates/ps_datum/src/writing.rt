@@ -158,7 +158,7 @@ fn put_datum(out: &mut Bytes, so_far: Written, datum: &Datum, names: &Names) -> 
     put_kind(out, so_far, &datum.kind, names)
 }
 
-// The same of what a datum is.
+// Whether the table has each name of what a datum is, without its place.
 #[cycle(knowing)]
 fn knows_kind(kind: &DatumKind, names: &Names) -> bool
     ensures { result ≡ kind_known names.now kind.now }
@@ -177,7 +177,7 @@ fn knows_kind(kind: &DatumKind, names: &Names) -> bool
     }
 }
 
-// Whether it holds of each item.
+// Whether it has each name of the items.
 #[cycle(knowing)]
 fn knows_all(items: &[Datum], names: &Names) -> bool
     ensures { result ≡ all_known (map (is_known names.now) items.now) }
@@ -198,7 +198,7 @@ pub fn has_known_names(datum: &Datum, names: &Names) -> bool
     knows_kind(&datum.kind, names)
 }
 
-/// Appends the text of a datum: `#t` and `#f`, integers in decimal digits, `#\space`, `#\newline` and other characters
+/// Appends the text of a datum (its external representation, R5RS 3.3): `#t` and `#f`, integers in decimal digits, `#\space`, `#\newline` and other characters
 /// behind `#\`, strings with a backslash before each double quote and each backslash and with no other escape, symbols as
 /// the table has them, lists, dotted lists and vectors with one space between their parts, and quotes as lists. It takes
 /// no memory but that of the text.

@@ -21,7 +21,7 @@ use Rattle.ps_plain.specs.declared.program.Expr.{Expr}
 use Rattle.ps_plain.specs.declared.program.Expr.TheVariants as exprs
 use Rattle.ps_plain.specs.declared.program.Write.{Write}
 use Rattle.ps_plain.specs.Forms.{Scope, Test, Head, Body, Part, is_name, keyword_of, keyword_in, has_arity, with_arity, called, and_also, all_some, operation_by, operation_of, test_by, test_of, conditional_by, conditional_of, read_of, call_by, call_of, form_by, form_headed, form_of, write_at, write_by, write_of, body_by, value_by, body_of, head_by, defined_by, head_of, first_symbol, procedure_by, procedure_of, no_part, word_part, list_part, part_node, part, scope_in}
-use Rattle.ps_plain.specs.Faults.{or_else, first_of, Flaws, expr_shapes, operands_shape, conditional_shape, form_shape, headed_shape, list_shape, compared_shape, test_list_shape, written_shape, write_list_shape, head_list_shape, body_shape, defined_shape, definition_list_shape, exprs_names, has_operands, called_names, call_names, conditional_names, form_names, headed_names, list_names, behind_names, is_among, with_word, parameters_names, head_list_names, body_names, body_in, definition_list_names, shapeless, name_flaws, word_flaws, list_flaws, flaws_node, flaws}
+use Rattle.ps_plain.specs.Faults.{or_else, first_of, Flaws, expr_shapes, operands_shape, conditional_shape, form_shape, headed_shape, list_shape, compared_shape, test_list_shape, written_shape, write_list_shape, head_list_shape, body_shape, defined_shape, definition_list_shape, exprs_names, called_names, call_names, conditional_names, form_names, headed_names, list_names, behind_names, is_among, with_word, parameters_names, head_list_names, body_names, body_in, definition_list_names, shapeless, name_flaws, word_flaws, list_flaws, flaws_node, flaws}
 use Rattle.ps_plain.proofs.Lists.{joined}
 use Rattle.ps_plain.proofs.Clear.{is_clear, clear_both, clear_unless, clear_where, both_hold, some_where, and_by, and_false, across, inward, last_inward}
 use Rattle.ps_plain.proofs.Distinct.{are_parameters, is_fine_head}
@@ -200,16 +200,12 @@ call_all p at None es = refl
 call_all p at (Some f) None = refl
 call_all p at (Some f) (Some es) = refl
 
-same_arity : (o : Option ℕ) (n : ℕ) → has_operands o n ≡ has_arity n o
-same_arity None n = refl
-same_arity (Some m) n = refl
-
 -- a called name with the right number of operands
 called_fits : (s : Scope) (p at : Place) (n : ℕ) (o : Option ℕ) (fs : List Flaws) → n ≡ length fs → is_clear (called_names s p at o fs) ≡ (is_some (with_arity s.arities n o) && is_clear (exprs_names s fs))
 called_fits s p at n None fs long = refl
 called_fits s p at n (Some f) fs long =
-    clear_where (has_operands (slice_get s.arities f) (length fs)) p (exprs_names s fs)
-    ∙ and_by (same_arity (slice_get s.arities f) (length fs) ∙ ap (λ (m : ℕ). has_arity m (slice_get s.arities f)) (sym long) ∙ sym (some_where f (has_arity n (slice_get s.arities f)))) refl
+    clear_where (has_arity (length fs) (slice_get s.arities f)) p (exprs_names s fs)
+    ∙ and_by (ap (λ (m : ℕ). has_arity m (slice_get s.arities f)) (sym long) ∙ sym (some_where f (has_arity n (slice_get s.arities f)))) refl
 
 -- the same, where a test says whether the name is a parameter
 call_names_fit : (s : Scope) (p at : Place) (n : ℕ) (b : Bool) (o : Option ℕ) (fs : List Flaws) → n ≡ length fs → is_clear (if b then Some at else called_names s p at o fs) ≡ (is_some (if b then None else with_arity s.arities n o) && is_clear (exprs_names s fs))

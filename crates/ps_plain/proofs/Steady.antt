@@ -13,8 +13,8 @@ use Rattle.ps_datum.specs.declared.datum.DatumKind.{DatumKind, fold-DatumKind}
 use Rattle.ps_datum.proofs.Trees.{induction, fold-datum, fold-boolean, fold-integer, fold-char, fold-text, fold-symbol, fold-list, fold-dotted, fold-vector}
 use Rattle.ps_plain.specs.declared.program.Keyword.{Keyword}
 use Rattle.ps_plain.specs.declared.program.Keyword.TheVariants as keywords
-use Rattle.ps_plain.specs.Forms.{Scope, Head, is_name, keyword_of, head_by, names_in, arities_in, scope_in}
-use Rattle.ps_plain.specs.Faults.{or_else, Flaws, exprs_names, has_operands, called_names, call_names, conditional_names, form_names, headed_names, list_names, behind_names, body_names, body_in, definition_list_names, shapeless, name_flaws, word_flaws, list_flaws, flaws_node, flaws}
+use Rattle.ps_plain.specs.Forms.{Scope, Head, has_arity, is_name, keyword_of, head_by, names_in, arities_in, scope_in}
+use Rattle.ps_plain.specs.Faults.{or_else, Flaws, exprs_names, called_names, call_names, conditional_names, form_names, headed_names, list_names, behind_names, body_names, body_in, definition_list_names, shapeless, name_flaws, word_flaws, list_flaws, flaws_node, flaws}
 
 -- ---- how many parameters a name is defined with
 
@@ -124,7 +124,7 @@ called_steady s t same p at None (Some g) fs all e = cc
 called_steady s t same p at (Some f) None fs all e = cc
 called_steady s t same p at (Some f) (Some g) fs all e =
     let arity : slice_get s.arities f ≡ slice_get t.arities g = cc in
-    ap (λ (o : Option ℕ). if has_operands o (length fs) then exprs_names s fs else Some p) arity ∙ ap (λ (o : Option Place). if has_operands (slice_get t.arities g) (length fs) then o else Some p) (exprs_steady s t same fs all)
+    ap (λ (o : Option ℕ). if has_arity (length fs) o then exprs_names s fs else Some p) arity ∙ ap (λ (o : Option Place). if has_arity (length fs) (slice_get t.arities g) then o else Some p) (exprs_steady s t same fs all)
 
 call_steady : (s t : Scope) → SameScope s t → (p at : Place) (w : List ℕ) (fs : List Flaws) → AreSteady fs → call_names s p at w fs ≡ call_names t p at w fs
 call_steady s t same p at w fs all =

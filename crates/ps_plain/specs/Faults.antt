@@ -11,7 +11,7 @@ use Rattle.ps_datum.specs.declared.datum.Datum.{Datum, fold-Datum}
 use Rattle.ps_datum.specs.declared.datum.DatumKind.TheOpen.{DatumKind-F}
 use Rattle.ps_plain.specs.declared.program.Keyword.{Keyword}
 use Rattle.ps_plain.specs.declared.program.Keyword.TheVariants as keywords
-use Rattle.ps_plain.specs.Forms.{keyword_of, keyword_in, is_name, Scope, Head, head_by, all_some, scope_in, heads_of}
+use Rattle.ps_plain.specs.Forms.{keyword_of, keyword_in, is_name, Scope, has_arity, Head, head_by, all_some, scope_in, heads_of}
 use Rattle.ps_plain.specs.Meaning.{start_place}
 
 -- the first of two faults
@@ -122,14 +122,10 @@ exprs_names s fs = first_of (map (λ (f : Flaws). f.expr_names s) fs)
 abbrev pub variable_names : Scope → Place → List ℕ → Option Place
 variable_names s p w = if is_some (number_of s.parameters w) then None else Some p
 
-abbrev pub has_operands : Option ℕ → ℕ → Bool
-has_operands None n = false
-has_operands (Some m) n = nat_eq m n
-
 -- a called name has a definition, which has as many parameters as there are operands
 abbrev pub called_names : Scope → Place → Place → Option ℕ → List Flaws → Option Place
 called_names s p at None fs = Some at
-called_names s p at (Some f) fs = if has_operands (slice_get s.arities f) (length fs) then exprs_names s fs else Some p
+called_names s p at (Some f) fs = if has_arity (length fs) (slice_get s.arities f) then exprs_names s fs else Some p
 
 -- and is no parameter
 abbrev pub call_names : Scope → Place → Place → List ℕ → List Flaws → Option Place
@@ -260,11 +256,6 @@ flaws names = fold-Datum (Place → Flaws) Flaws (flaws_node names) (λ d. d.kin
 
 abbrev pub shapes_fault : List (List ℕ) → List Datum → Option Place
 shapes_fault names ds = first_of (map (λ d. (flaws names d).definition_shape) ds)
-
--- the names that a head defines, behind others
-abbrev pub with_head : List (List ℕ) → Option Head → List (List ℕ)
-with_head defined None = defined
-with_head defined (Some h) = defined ++ h.name ∷ []
 
 -- the definitions that are left, where the heads of all and the names defined before are these
 abbrev pub names_from : List (List ℕ) → List Head → List (List ℕ) → List Head → List Datum → Option Place

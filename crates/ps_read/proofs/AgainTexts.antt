@@ -1,12 +1,12 @@
--- Runs and tables: what of a text's front stays when other bytes stand behind it, and what of a table stays when it grows.
-use Rattle.std.proofs.Common.{◌≡◌, ℕ, zero, suc, ◌≤◌, ◌-◌, Bool, true, false, cond, List, [], ◌∷◌, ◌++◌, length, take, drop, Option, Some, None, slice_index_or, refl, sym, ap, ◌∙◌, append_assoc, arith}
-use Rattle.std.specs.Prelude.{not, ◌&&◌, codes}
+-- Runs and tables: what of a text's front stays when other bytes stand behind it, and what number a name has in a table that grew.
+use Rattle.std.proofs.Common.{◌≡◌, ℕ, zero, suc, ◌≤◌, ◌-◌, Bool, true, false, cond, List, [], ◌∷◌, ◌++◌, length, take, drop, Option, Some, None, slice_index_or, refl, sym, ap, ◌∙◌, arith}
+use Rattle.std.specs.Prelude.{not}
 use Rattle.std.specs.List.{list_all}
 use Rattle.std.specs.Option.{option_map}
 use Rattle.std.specs.Str.{bytes_eq}
 use Rattle.std.proofs.Math.Numerals.{sub-one}
 use Rattle.std.proofs.lemmas.Slice.Eq.{bytes_eq-Decides}
-use Rattle.std.proofs.lemmas.List.{append-nil, take_at}
+use Rattle.std.proofs.lemmas.List.{take_at}
 use Rattle.ps_base.specs.Names.{number_of}
 use Rattle.ps_base.specs.declared.faults.Place.{Place}
 use Rattle.ps_datum.specs.declared.datum.Datum.{Datum}
@@ -17,17 +17,11 @@ use Rattle.ps_read.specs.declared.token.Token.{Token}
 use Rattle.ps_read.specs.declared.token.Word.{Word}
 use Rattle.ps_read.specs.declared.token.Word.TheVariants as w
 use Rattle.ps_read.specs.declared.token.Front.{Front}
-use Rattle.ps_read.specs.declared.token.Front.TheVariants.{Gap, Whole, Named, Quoted, Stop}
+use Rattle.ps_read.specs.declared.token.Front.TheVariants.{Whole}
 use Rattle.ps_read.specs.Grammar.{token, joined_by}
+use Rattle.ps_read.proofs.Booleans.{and_left, and_rest}
+use Rattle.ps_read.proofs.Texts.{skipped, listed_skipped, taken_resolved}
 use Rattle.ps_read.specs.Lexical.{Table, added, added_by, after, begun, behind, ends_here, front_of, is_delimiter, listed, listed_by, noted, number_in, number_or, resolved, run_front, run_len, run_word, taken, tokens}
-
-pub and_left : (a b : Bool) → (a && b) ≡ true → a ≡ true
-and_left true b h = refl
-and_left false b h = absurd cc
-
-pub and_rest : (a b : Bool) → (a && b) ≡ true → b ≡ true
-and_rest true b h = h
-and_rest false b h = absurd cc
 
 -- ---- runs before a delimiter
 
@@ -53,13 +47,6 @@ run_front_is run m all h = ap (λ (n : ℕ). run_word n (take n (run ++ m))) (ru
 
 -- ---- a token that leaves the table
 
-skipped : (names : Table) (n : ℕ) (p : Place) (text : List ℕ) → n ≤ length text → tokens names n p text ≡ tokens names 0 (behind p (take n text)) (drop n text)
-unfolding tokens
-skipped names zero p [] h = refl
-skipped names zero p (c ∷ cs) h = refl
-skipped names (suc n) p [] h = refl
-skipped names (suc n) p (c ∷ cs) h = skipped names n (after p c) cs (omega arith)
-
 pub one_token : (names : Table) (n : ℕ) (x : Word) (p : Place) (c : ℕ) (cs : List ℕ) → resolved names (front_of c cs) ≡ Whole (suc n) x → noted names (front_of c cs) ≡ names → n ≤ length cs
     → tokens names 0 p (c ∷ cs) ≡ token p x ∷ tokens names 0 (behind p (take (suc n) (c ∷ cs))) (drop (suc n) (c ∷ cs))
 unfolding tokens
@@ -67,26 +54,11 @@ one_token names n x p c cs e g le =
     ap (λ (y : Front). begun p y (c ∷ cs) (λ i. tokens (noted names (front_of c cs)) (i - 1) (after p c) cs)) e ∙ ap (λ (t : Table). token p x ∷ tokens t (suc n - 1) (after p c) cs) g
     ∙ ap (λ (i : ℕ). token p x ∷ tokens names i (after p c) cs) (sub-one (suc n)) ∙ ap (λ (ts : List Token). token p x ∷ ts) (skipped names n (after p c) cs le)
 
-passed : (names : Table) (n : ℕ) (text : List ℕ) → n ≤ length text → listed names n text ≡ listed names 0 (drop n text)
-unfolding listed
-passed names zero [] h = refl
-passed names zero (c ∷ cs) h = refl
-passed names (suc n) [] h = refl
-passed names (suc n) (c ∷ cs) h = passed names n cs (omega arith)
-
-taken_resolved : (names : Table) (f : Front) → taken (resolved names f) ≡ taken f
-unfolding resolved
-taken_resolved names (Gap n) = refl
-taken_resolved names (Whole n x) = refl
-taken_resolved names (Named n x) = refl
-taken_resolved names Quoted = refl
-taken_resolved names (Stop n kind) = refl
-
 pub one_listed : (names : Table) (n : ℕ) (x : Word) (c : ℕ) (cs : List ℕ) → resolved names (front_of c cs) ≡ Whole (suc n) x → noted names (front_of c cs) ≡ names → n ≤ length cs → listed names 0 (c ∷ cs) ≡ listed names 0 (drop (suc n) (c ∷ cs))
 unfolding listed
 one_listed names n x c cs e g le =
     ap (λ (o : Option ℕ). listed_by (noted names (front_of c cs)) o (λ i. listed (noted names (front_of c cs)) (i - 1) cs)) (sym (taken_resolved names (front_of c cs)) ∙ ap taken e) ∙ ap (λ (t : Table). listed t (suc n - 1) cs) g
-    ∙ ap (λ (i : ℕ). listed names i cs) (sub-one (suc n)) ∙ passed names n cs le
+    ∙ ap (λ (i : ℕ). listed names i cs) (sub-one (suc n)) ∙ listed_skipped names n cs le
 
 -- ---- atoms
 
@@ -149,42 +121,3 @@ at_by t x y false (Some m) (suc n) e h g = let i : m ≡ n = cc in h n (ap (λ (
 pub text_at : (t : Table) (x : List ℕ) (n : ℕ) → number_of t x ≡ Some n → slice_index_or t n [] ≡ x
 text_at [] x n h = absurd cc
 text_at (y ∷ t) x n h = at_by t x y (bytes_eq x y) (number_of t x) n refl (λ m e. text_at t x m e) h
-
--- a table with others behind it
-pub record Grown (t u : Table) : Type 0 where
-  pub more : Table
-  pub is : u ≡ t ++ more
-
-pub grown_same : (t : Table) → Grown t t
-grown_same t = record { more = []; is = sym (append-nil t) }
-
-grown_then : (t u v : Table) → Grown t u → Grown u v → Grown t v
-grown_then t u v g h = record { more = g.more ++ h.more; is = h.is ∙ ap (λ (x : Table). x ++ h.more) g.is ∙ append_assoc t g.more h.more }
-
-grown_added : (t : Table) (x : List ℕ) → Grown t (added t x)
-grown_added t x = go (number_of t x)
-  where
-    go : (o : Option ℕ) → Grown t (added_by t x o)
-    go None = record { more = x ∷ []; is = refl }
-    go (Some n) = grown_same t
-
-grown_noted : (t : Table) (f : Front) → Grown t (noted t f)
-unfolding noted
-grown_noted t (Gap n) = grown_same t
-grown_noted t (Whole n x) = grown_same t
-grown_noted t (Named n x) = grown_added t x
-grown_noted t Quoted = grown_added t (codes "quote")
-grown_noted t (Stop n kind) = grown_same t
-
--- a text only adds to the table
-grown_by : (t : Table) (o : Option ℕ) (more : ℕ → Table) → ((n : ℕ) → Grown t (more n)) → Grown t (listed_by t o more)
-grown_by t None more h = grown_same t
-grown_by t (Some n) more h = h n
-
-pub grown_listed : (t : Table) (n : ℕ) (text : List ℕ) → Grown t (listed t n text)
-unfolding listed
-grown_listed t n [] = grown_same t
-grown_listed t (suc n) (c ∷ cs) = grown_listed t n cs
-grown_listed t zero (c ∷ cs) =
-    grown_then t (noted t (front_of c cs)) _ (grown_noted t (front_of c cs))
-    (grown_by (noted t (front_of c cs)) (taken (front_of c cs)) (λ n. listed (noted t (front_of c cs)) (n - 1) cs) (λ n. grown_listed (noted t (front_of c cs)) (n - 1) cs))

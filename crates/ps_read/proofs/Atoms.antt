@@ -32,7 +32,10 @@ use Rattle.ps_read.specs.declared.token.Front.{Front}
 use Rattle.ps_read.specs.declared.token.Front.TheVariants.{Gap, Whole, Named, Quoted, Stop}
 use Rattle.ps_read.specs.Grammar.{joined_by}
 use Rattle.ps_read.specs.Lexical.{Table, added, added_by, after, begun, char_front, ends_here, escaped, front_of, integer_word, is_delimiter, is_digit, is_escape, is_float, is_identifier, is_initial, is_numeral, is_numeral_in, is_space, is_subsequent, listed, listed_by, marked_base, name_in, named_char, noted, number_in, number_or, resolved, run_front, run_len, run_word, small, string_from, taken, tokens, word_in}
-use Rattle.ps_read.proofs.AgainTexts.{Delimited, Fine, FineWord, Grown, IsAtom, and_left, and_rest, grown_listed, is_run_byte, number_added, number_kept, run_front_is, run_whole, text_at}
+use Rattle.ps_read.specs.Reading.{Grown}
+use Rattle.ps_read.proofs.Booleans.{and_left, and_rest}
+use Rattle.ps_read.proofs.GrownTables.{grown_listed}
+use Rattle.ps_read.proofs.AgainTexts.{Delimited, Fine, FineWord, IsAtom, is_run_byte, number_added, number_kept, run_front_is, run_whole, text_at}
 
 -- ---- tests
 

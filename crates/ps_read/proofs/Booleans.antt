@@ -10,6 +10,12 @@ pub and_true : (a b : Bool) → (a && b) ≡ true → (a ≡ true) × (b ≡ tru
 and_true true b h = (refl, h)
 and_true false b h = cc
 
+pub and_left : (a b : Bool) → (a && b) ≡ true → a ≡ true
+and_left a b h = (and_true a b h).0
+
+pub and_rest : (a b : Bool) → (a && b) ≡ true → b ≡ true
+and_rest a b h = (and_true a b h).1
+
 pub and_both : (a b : Bool) → a ≡ true → b ≡ true → (a && b) ≡ true
 and_both true b h g = g
 and_both false b h g = cc

@@ -8,6 +8,7 @@ pub mod Texts
 pub mod Clauses
 pub mod Parts
 pub mod Fits
+pub mod GrownTables
 pub mod AgainTexts
 pub mod Atoms
 pub mod Back

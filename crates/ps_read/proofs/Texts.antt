@@ -194,14 +194,14 @@ next_ok names text (Err x) some e = tt
 
 -- ---- the table behind a text
 
-listed_skipped : (names : Table) (n : ℕ) (text : List ℕ) → n ≤ length text → listed names n text ≡ listed names 0 (drop n text)
+pub listed_skipped : (names : Table) (n : ℕ) (text : List ℕ) → n ≤ length text → listed names n text ≡ listed names 0 (drop n text)
 unfolding listed
 listed_skipped names zero [] h = refl
 listed_skipped names zero (c ∷ cs) h = refl
 listed_skipped names (suc n) [] h = refl
 listed_skipped names (suc n) (c ∷ cs) h = listed_skipped names n cs (omega arith)
 
-taken_resolved : (names : Table) (f : Front) → taken (resolved names f) ≡ taken f
+pub taken_resolved : (names : Table) (f : Front) → taken (resolved names f) ≡ taken f
 unfolding resolved
 taken_resolved names (Gap n) = refl
 taken_resolved names (Whole n x) = refl

@@ -1,5 +1,5 @@
 -- What reading a text answers.
-use Rattle.std.specs.Prelude.{◌≡◌, ℕ, ◌<◌, ◌≤◌, List, [], true, Result, Ok, Err}
+use Rattle.std.specs.Prelude.{◌≡◌, ℕ, ◌<◌, ◌≤◌, List, [], ◌++◌, true, Result, Ok, Err}
 use Rattle.std.specs.List.{AllByRecursion}
 use Rattle.ps_base.specs.declared.faults.Fault.{Fault}
 use Rattle.ps_base.specs.declared.faults.Fault.TheVariants as faults
@@ -63,6 +63,11 @@ pub record IsName (text : List ℕ) : Type 0 where
 -- a table of identifiers in small letters
 pub record AreNames (names : Table) : Type 0 where
   pub all : AllByRecursion IsName names
+
+-- a table of names that was only added to: each name that it had keeps its number
+pub record Grown (before behind : Table) : Type 0 where
+  pub more : Table
+  pub is : behind ≡ before ++ more
 
 -- ---- private to the reader: what its parts answer
 

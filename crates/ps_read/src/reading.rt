@@ -9,7 +9,7 @@ ghost use Rattle.ps_read.specs.Breaches.{FirstBreach};
 ghost use Rattle.ps_read.specs.Lexical as spec;
 ghost use Rattle.ps_read.specs.Lexical.{tokens_of};
 ghost use Rattle.ps_read.specs.Machine.{Answer, run};
-ghost use Rattle.ps_read.specs.Reading.{Reads, IsReadUnlessMemory, Refuses, IsBreachUnlessMemory, AllKnown, AreNames, Fails, Gives, Within, IsResolved, answer};
+ghost use Rattle.ps_read.specs.Reading.{Reads, IsReadUnlessMemory, Refuses, IsBreachUnlessMemory, AllKnown, AreNames, Grown, Fails, Gives, Within, IsResolved, answer};
 
 use crate::lexer::front_of;
 use crate::machine::{breach_of, take};
@@ -77,6 +77,7 @@ fn next_front(alloc: Global, names: &mut Names, text: &[u8]) -> Result<Front, No
     ensures noted { OnOk result (names.new ≡ spec.noted names.old (spec.front_of (slice_index text.now 0) (drop 1 text.now))) }
     ensures names_len { OnOk result (length names.new ≤ length names.old + 1) }
     ensures identifiers { AreNames names.old → AreNames names.new }
+    ensures kept { Grown names.old names.new }
 {
     let raw = front_of(alloc, text)?;
     let front = resolve(names, raw)?;
@@ -106,6 +107,7 @@ fn step(
     ensures within { IfOk result (λ n. (0 < n) × (n ≤ length text.now)) }
     ensures names_len { OnOk result (length names.new ≤ length names.old + 1) }
     ensures identifiers { AreNames names.old → AreNames names.new }
+    ensures kept { Grown names.old names.new }
     ensures ok { OnOk result (IfOk result (λ n. run (done.old, stack.old) (spec.tokens names.old 0 place text.now)
         ≡ run (done.new, stack.new) (spec.tokens names.new 0 (spec.behind place (take n text.now)) (drop n text.now)))) }
     ensures listed { OnOk result (IfOk result (λ n. spec.listed names.old 0 text.now ≡ spec.listed names.new 0 (drop n text.now))) }
@@ -143,6 +145,7 @@ fn read_text(
     ensures answer { Gives result (answer names.old file text.now) }
     ensures listed { OnOk result (names.new ≡ spec.listed names.old 0 text.now) }
     ensures identifiers { AreNames names.old → AreNames names.new }
+    ensures kept { Grown names.old names.new }
 {
     let mut done = Items::new(alloc);
     let mut stack: Stack<Frame> = Stack::new(alloc);
@@ -167,7 +170,8 @@ fn read_text(
 }
 
 /// Reads the data of a text (R5RS 7.1.1 and 7.1.2, in this project's profile), in time linear in its length. Behind it the
-/// table lists the identifiers of the text too, in the order in which they came first, in small letters.
+/// table lists the identifiers of the text too, in the order in which they came first, in small letters. A name that the
+/// table had before keeps its number, whatever comes of the text.
 ///
 /// The text must have fewer than 4,294,967,295 bytes, as many as the table may have names before and the text has bytes
 /// together. It is read where it is the text of data, with at most 200 lists, vectors and quotes open at once. The weight of
@@ -199,6 +203,7 @@ pub fn read_all(
     ensures small { IfOk result (λ ds. weights ds ≤ 3 * length text.now) }
     ensures known { IfOk result (λ ds. AllKnown names.new ds) }
     ensures identifiers { AreNames names.old → AreNames names.new }
+    ensures kept { Grown names.old names.new }
 {
     read_text(alloc, text, file, names)
 }

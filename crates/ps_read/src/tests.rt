@@ -6,6 +6,7 @@ use crate::read_all;
 use ps_base::{Fault, Name, Names, Refusal};
 use ps_datum::{Datum, DatumKind};
 use std::alloc::{AllocError, Global};
+use std::process::Abort;
 use std::test::Fail;
 
 mod agreement;
@@ -99,7 +100,17 @@ fn reading(alloc: Global, text: &[u8]) -> Result<Vec<u8>, AllocError>
     Ok(out)
 }
 
-// In the tables here `~` stands between the texts of a row.
+// Each text of a row, between which `~` stands, is read as the row says.
+fn assert_readings(rt: &impl Abort, alloc: Global, table: &[(&[u8], &[u8])]) -> Result<(), Fail> {
+    for (expected, texts) in table {
+        for text in texts.split(|c| *c == b'~') {
+            assert!(rt; text.len() < 1000);
+            let found = reading(alloc, text)?;
+            assert_eq!(rt; found.as_slice(), *expected);
+        }
+    }
+    Ok(())
+}
 
 #[test]
 fn tokens_are_data(rt: HostRuntime) -> Result<(), Fail> {
@@ -130,14 +141,7 @@ fn tokens_are_data(rt: HostRuntime) -> Result<(), Fail> {
             b"\"a\\n\\\\\\\"b\" \"\" \"c\nd\" \"\xc3\xa9;(\"",
         ),
     ];
-    for (expected, texts) in table {
-        for text in texts.split(|c| *c == b'~') {
-            assert!(rt; text.len() < 1000);
-            let found = reading(rt.alloc(), text)?;
-            assert_eq!(rt; found.as_slice(), *expected);
-        }
-    }
-    Ok(())
+    assert_readings(&rt, rt.alloc(), table)
 }
 
 #[test]
@@ -155,14 +159,7 @@ fn texts_of_several_tokens_are_data(rt: HostRuntime) -> Result<(), Fail> {
         ),
         (b"(a . b)", b"(a . b;c\n)"),
     ];
-    for (expected, texts) in table {
-        for text in texts.split(|c| *c == b'~') {
-            assert!(rt; text.len() < 1000);
-            let found = reading(rt.alloc(), text)?;
-            assert_eq!(rt; found.as_slice(), *expected);
-        }
-    }
-    Ok(())
+    assert_readings(&rt, rt.alloc(), table)
 }
 
 #[test]
@@ -192,14 +189,7 @@ fn first_breaches_of_tokens(rt: HostRuntime) -> Result<(), Fail> {
         (b"FloatLiteral 7:1:8", b"(a . b 1.5)"),
         (b"BadToken 7:1:2", b"\t]~\x0c]"),
     ];
-    for (expected, texts) in table {
-        for text in texts.split(|c| *c == b'~') {
-            assert!(rt; text.len() < 1000);
-            let found = reading(rt.alloc(), text)?;
-            assert_eq!(rt; found.as_slice(), *expected);
-        }
-    }
-    Ok(())
+    assert_readings(&rt, rt.alloc(), table)
 }
 
 #[test]
@@ -226,14 +216,7 @@ fn first_breaches_of_data_and_their_places(rt: HostRuntime) -> Result<(), Fail> 
         (b"BadToken 7:2:4", b"\"a\nb\" ]"),
         (b"BadDot 7:3:2", b"(a\n\n . ;x\n b ;y\n c)"),
     ];
-    for (expected, texts) in table {
-        for text in texts.split(|c| *c == b'~') {
-            assert!(rt; text.len() < 1000);
-            let found = reading(rt.alloc(), text)?;
-            assert_eq!(rt; found.as_slice(), *expected);
-        }
-    }
-    Ok(())
+    assert_readings(&rt, rt.alloc(), table)
 }
 
 // A text of openings and then another text.

@@ -12,8 +12,8 @@ use Rattle.ps_datum.specs.declared.datum.DatumKind.TheVariants as k
 use Rattle.ps_datum.proofs.Trees.{induction, fold-datum, fold-boolean, fold-integer, fold-char, fold-text, fold-symbol, fold-list, fold-dotted, fold-vector}
 use Rattle.ps_plain.specs.declared.program.Keyword.{Keyword}
 use Rattle.ps_plain.specs.declared.program.Keyword.TheVariants as keywords
-use Rattle.ps_plain.specs.Forms.{Scope, keyword_of, is_name}
-use Rattle.ps_plain.specs.Faults.{Flaws, flaws, flaws_node, shapeless, name_flaws, word_flaws, list_flaws, or_else, exprs_names, has_operands, called_names, call_names, conditional_names, form_names, headed_names, list_names, behind_names, body_names}
+use Rattle.ps_plain.specs.Forms.{Scope, has_arity, keyword_of, is_name}
+use Rattle.ps_plain.specs.Faults.{Flaws, flaws, flaws_node, shapeless, name_flaws, word_flaws, list_flaws, or_else, exprs_names, called_names, call_names, conditional_names, form_names, headed_names, list_names, behind_names, body_names}
 use Rattle.ps_resolve.specs.Heads.{arity_at}
 
 -- the same parameters, and the same numbers of operands for each name of a procedure
@@ -24,7 +24,7 @@ pub record Tells (s t : Scope) : Type 0 where
 -- a call, by the number of operands that the name has
 abbrev by_arity : Place → Place → Option (Option ℕ) → List Flaws → Option Place → Option Place
 by_arity p at None fs rest = Some at
-by_arity p at (Some m) fs rest = if has_operands m (length fs) then rest else Some p
+by_arity p at (Some m) fs rest = if has_arity (length fs) m then rest else Some p
 
 called_is : (s : Scope) (p at : Place) (f : Option ℕ) (fs : List Flaws) → called_names s p at f fs ≡ by_arity p at (option_map (slice_get s.arities) f) fs (exprs_names s fs)
 called_is s p at None fs = refl

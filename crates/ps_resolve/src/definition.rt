@@ -7,9 +7,10 @@ ghost use Rattle.ps_resolve.specs.Refusals.{IsRead, IsUnresolved};
 ghost use Rattle.ps_resolve.specs.Values.{scope_of};
 ghost use Rattle.ps_resolve.specs.Definitions.{IsDefine, AreParameters, IsDefinition, procedure_at};
 
-use crate::expr::{expr, keyword, symbol, word};
+use crate::expr::expr;
 use crate::program::Unresolved;
 use crate::scope::Scope;
+use crate::symbols::{keyword, symbol, word};
 use crate::words::{is, is_name};
 use ps_base::{Items, Name, Names, Place};
 use ps_datum::{Datum, DatumKind};

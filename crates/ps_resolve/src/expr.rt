@@ -1,14 +1,15 @@
 //! Expressions.
 
-ghost use Rattle.std.specs.Prelude.{◌≡◌, ℕ, List, map, MatchOption, None, Some};
-ghost use Rattle.ps_plain.specs.Forms.{Part, part, keyword_of, keyword_in, form_by, operation_of, conditional_of, call_of, read_of, all_some};
+ghost use Rattle.std.specs.Prelude.{ℕ, List, map};
+ghost use Rattle.ps_plain.specs.Forms.{Part, part, keyword_of, form_by, operation_of, conditional_of, call_of, read_of, all_some};
 ghost use Rattle.ps_resolve.specs.Refusals.{IsRead, IsReadAs};
 ghost use Rattle.ps_resolve.specs.Values.{scope_of, test_of};
 
 use crate::program::Unresolved;
 use crate::scope::{Scope, called, parameter};
+use crate::symbols::{keyword, word};
 use crate::words;
-use ps_base::{Boxed, Items, Name, Names, Place};
+use ps_base::{Boxed, Items, Place};
 use ps_datum::{Datum, DatumKind};
 use ps_plain::{Comparison, Expr, Keyword, Operator};
 use std::alloc::Global;
@@ -20,43 +21,6 @@ pub(crate) struct Test {
     pub comparison: Comparison,
     pub left: Expr,
     pub right: Expr,
-}
-
-// The word that a datum is: its name, and the text of this.
-pub(crate) fn symbol<'a>(names: &'a Names, datum: &Datum) -> Option<(Name, &'a [u8])>
-    ensures { MatchOption result ((part names.now datum.now).word ≡ None) (λ r. ((part names.now datum.now).symbol ≡ Some r.0) × ((part names.now datum.now).word ≡ Some r.1.now)) }
-{
-    match &datum.kind {
-        DatumKind::Symbol(name) => match words::text(names, *name) {
-            Some(text) => Some((*name, text)),
-            None => None,
-        },
-        DatumKind::Boolean(_) => None,
-        DatumKind::Integer(_) => None,
-        DatumKind::Char(_) => None,
-        DatumKind::Text(_) => None,
-        DatumKind::List(_) => None,
-        DatumKind::Dotted(_, _) => None,
-        DatumKind::Vector(_) => None,
-    }
-}
-
-// The word that a datum is: the text of its name.
-pub(crate) fn word<'a>(names: &'a Names, datum: &Datum) -> Option<&'a [u8]>
-    ensures { MatchOption result ((part names.now datum.now).word ≡ None) (λ w. (part names.now datum.now).word ≡ Some w.now) }
-{
-    let (_, text) = symbol(names, datum)?;
-    Some(text)
-}
-
-// The keyword that a datum is.
-pub(crate) fn keyword(names: &Names, datum: &Datum) -> Option<Keyword>
-    ensures { result ≡ keyword_in (part names.now datum.now).word }
-{
-    match word(names, datum) {
-        Some(word) => words::keyword(word),
-        None => None,
-    }
 }
 
 // The expression that a datum is.

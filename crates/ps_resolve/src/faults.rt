@@ -9,7 +9,8 @@ ghost use Rattle.ps_plain.specs.Faults.{flaws, or_else, parameters_names, body_n
 ghost use Rattle.ps_resolve.specs.Heads.{IsAdded, IsKnown, IsDefine, HasParts, IsHeadOf, HaveHeads, Knows, head_at, head_fault, words_of, names_walk};
 
 use crate::name_faults::{NamesInScope, body_names};
-use crate::shapes::{parts, shapes_fault, word};
+use crate::shapes::{parts, shapes_fault};
+use crate::symbols::word;
 use crate::words;
 use ps_base::{Items, Names, NoMemory, Place};
 use ps_datum::Datum;

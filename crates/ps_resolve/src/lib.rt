@@ -8,11 +8,10 @@ mod name_faults;
 mod program;
 mod scope;
 mod shapes;
+mod symbols;
 mod words;
 
 pub use program::resolve;
 
-#[cfg(test)]
-mod faults_tests;
 #[cfg(test)]
 mod tests;

@@ -1,11 +1,12 @@
 //! Names that break a condition. Each function gives the place of the first, in order of the text.
 
 ghost use Rattle.std.specs.Prelude.{◌≡◌, map, slice_get, MatchOption, None, Some};
-ghost use Rattle.ps_plain.specs.Forms.{keyword_of};
-ghost use Rattle.ps_plain.specs.Faults.{flaws, word_flaws, exprs_names, variable_names, has_operands, call_names, conditional_names, form_names, behind_names, body_names};
+ghost use Rattle.ps_plain.specs.Forms.{keyword_of, has_arity};
+ghost use Rattle.ps_plain.specs.Faults.{flaws, word_flaws, exprs_names, variable_names, call_names, conditional_names, form_names, behind_names, body_names};
 ghost use Rattle.ps_resolve.specs.NameTables.{scope_of, writes_names};
 
-use crate::shapes::{parts, word};
+use crate::shapes::parts;
+use crate::symbols::word;
 use crate::words;
 use crate::words::text;
 use ps_base::{Name, Names, Place};
@@ -44,7 +45,7 @@ fn symbol_names(names: &Names, scope: &NamesInScope<'_>, place: Place, name: Nam
 
 // The procedure of this number has as many parameters as there are operands.
 fn has_operands(arities: &[usize], procedure: Name, operands: usize) -> bool
-    ensures { result ≡ has_operands (slice_get arities.now procedure.0) operands }
+    ensures { result ≡ has_arity operands (slice_get arities.now procedure.0) }
 {
     match arities.get(procedure.0 as usize) {
         Some(arity) => *arity == operands,

@@ -3,41 +3,15 @@
 
 ghost use Rattle.std.specs.Prelude.{◌≡◌, if◌then◌else◌, map, slice_get, MatchOption, None, Some};
 ghost use Rattle.ps_base.specs.Numbers.{is_word};
-ghost use Rattle.ps_plain.specs.Forms.{keyword_in};
 ghost use Rattle.ps_plain.specs.Faults.{flaws, word_flaws, expr_shapes, operands_shape, form_shape, conditional_shape, compared_shape, write_list_shape, head_list_shape, body_shape, definition_list_shape, defined_shape, shapes_fault};
 ghost use Rattle.ps_resolve.specs.Kinds.{IsList, IsNoList, name_shapes, write_shapes};
 
+use crate::symbols::{keyword, word};
 use crate::words;
 use crate::words::text;
 use ps_base::{Name, Names, Place};
 use ps_datum::{Datum, DatumKind};
 use ps_plain::Keyword;
-
-// The text of the symbol that a datum is.
-pub(crate) fn word<'a>(names: &'a Names, datum: &Datum) -> Option<&'a [u8]>
-    ensures { MatchOption result ((flaws names.now datum.now).word ≡ None) (λ w. (flaws names.now datum.now).word ≡ Some w.now) }
-{
-    match &datum.kind {
-        DatumKind::Symbol(name) => text(names, *name),
-        DatumKind::Boolean(_) => None,
-        DatumKind::Integer(_) => None,
-        DatumKind::Char(_) => None,
-        DatumKind::Text(_) => None,
-        DatumKind::List(_) => None,
-        DatumKind::Dotted(_, _) => None,
-        DatumKind::Vector(_) => None,
-    }
-}
-
-// The keyword that a datum is.
-fn keyword(names: &Names, datum: &Datum) -> Option<Keyword>
-    ensures { result ≡ keyword_in (flaws names.now datum.now).word }
-{
-    match word(names, datum) {
-        Some(word) => words::keyword(word),
-        None => None,
-    }
-}
 
 // The data between the brackets of a list.
 pub(crate) fn parts(datum: &Datum) -> Option<&[Datum]>

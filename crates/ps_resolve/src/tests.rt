@@ -1,157 +1,45 @@
 //! Texts and the programs that they are.
 
-ghost use Rattle.std.specs.Prelude.{◌≡◌, IfSome};
-ghost use Rattle.ps_datum.specs.Weight.{weight, weights};
-
 use crate::*;
-use ps_base::{Boxed, Fault, Items, Name, Names, NoMemory, Place, Refusal};
-use ps_datum::{Datum, DatumKind};
+use fixture::{place, read, weights, with_parameters};
+use ps_base::{Fault, Name, Names, Place, Refusal};
+use ps_datum::Datum;
 use ps_plain::{Comparison, Expr, Operator, Program};
 use std::alloc::{AllocError, Global};
 use std::test::Fail;
 
-// The place of a column in a text of one line.
-fn place(column: u32) -> Place {
-    Place {
-        file: 0,
-        line: 1,
-        column,
-    }
-}
-
-// A datum at a column.
-fn datum(column: u32, kind: DatumKind) -> Datum {
-    Datum {
-        place: place(column),
-        kind,
-    }
-}
-
-// The symbol of a word.
-fn symbol(names: &mut Names, word: &[u8]) -> Result<DatumKind, Fail> {
-    if names.len() == u32::MAX {
-        return Err("many names".into());
-    }
-    match names.add(word) {
-        Ok(name) => Ok(DatumKind::Symbol(name)),
-        Err(NoMemory) => Err(AllocError.into()),
-    }
-}
-
-// What a word is: an integer, or else a symbol.
-fn kind(names: &mut Names, word: &[u8]) -> Result<DatumKind, Fail> {
-    if let Ok(text) = str::from_utf8(word) {
-        if let Ok(i) = text.parse::<i64>() {
-            return Ok(DatumKind::Integer(i));
-        }
-    }
-    symbol(names, word)
-}
-
-// Ends the word that was read so far, which begins at a column.
-fn end_word(
-    names: &mut Names,
-    column: u32,
-    word: &mut Vec<u8>,
-    data: &mut Items<Datum>,
-) -> Result<(), Fail> {
-    if !word.is_empty() {
-        data.push(datum(column, kind(names, word.as_slice())?))?;
-        word.clear();
-    }
-    Ok(())
-}
-
-// The data that a text of integers, symbols and brackets writes in one line.
-fn data(alloc: Global, names: &mut Names, text: &[u8]) -> Result<Items<Datum>, Fail> {
-    let mut outer = Vec::new(alloc);
-    let mut inner = Items::new(alloc);
-    let mut word = Vec::new(alloc);
-    let mut start: u32 = 0;
-    let mut column: u32 = 0;
-    for b in text {
-        column = column.saturating_add(1);
-        match b {
-            b'(' => {
-                end_word(names, start, &mut word, &mut inner)?;
-                outer.push((column, inner))?;
-                inner = Items::new(alloc);
-            }
-            b')' => {
-                end_word(names, start, &mut word, &mut inner)?;
-                let (bracket, before) = outer.pop().unwrap_or((0, Items::new(alloc)));
-                let list = datum(bracket, DatumKind::List(inner));
-                inner = before;
-                inner.push(list)?;
-            }
-            b' ' => end_word(names, start, &mut word, &mut inner)?,
-            _ => {
-                if word.is_empty() {
-                    start = column;
-                }
-                word.push(*b)?;
-            }
-        }
-    }
-    end_word(names, start, &mut word, &mut inner)?;
-    Ok(inner)
-}
-
-// How large a datum is.
-#[cycle(weight)]
-fn weight(datum: &Datum) -> Option<u32>
-    ensures { IfSome result (λ n. n ≡ weight datum.now) }
-{
-    match &datum.kind {
-        DatumKind::Boolean(_) => Some(1),
-        DatumKind::Integer(_) => Some(1),
-        DatumKind::Char(_) => Some(1),
-        DatumKind::Text(_) => Some(1),
-        DatumKind::Symbol(_) => Some(1),
-        DatumKind::List(parts) => weights(parts.as_slice())?.checked_add(2),
-        DatumKind::Dotted(parts, last) => weights(parts.as_slice())?
-            .checked_add(3)?
-            .checked_add(weight(last.get())?),
-        DatumKind::Vector(parts) => weights(parts.as_slice())?.checked_add(2),
-    }
-}
-
-// The same of data.
-#[cycle(weight)]
-fn weights(forms: &[Datum]) -> Option<u32>
-    ensures { IfSome result (λ n. n ≡ weights forms.now) }
-{
-    let mut sum: u32 = 0;
-    for form in forms {
-        sum = sum.checked_add(weight(form)?)?;
-    }
-    Some(sum)
-}
+mod faults;
+mod fixture;
 
 // Writes the column of a place, and a colon.
 fn put_column(out: &mut String, place: Place) -> Result<(), AllocError> {
     write!(out, "{}:", place.column)
 }
 
+fn operator_text(operator: Operator) -> &'static str {
+    match operator {
+        Operator::Add => "(+",
+        Operator::Subtract => "(-",
+        Operator::Multiply => "(*",
+    }
+}
+
+fn comparison_text(comparison: Comparison) -> &'static str {
+    match comparison {
+        Comparison::Less => "(<",
+        Comparison::Equal => "(=",
+    }
+}
+
 // Writes an expression, each part behind its column. A parameter is `x` with its number, and a procedure `f` with its number.
 #[cycle(put_expr)]
 fn put_expr(out: &mut String, expr: &Expr) -> Result<(), AllocError> {
     match expr {
-        Expr::Integer(place, i) => {
-            put_column(out, *place)?;
-            write!(out, "{i}")
-        }
-        Expr::Parameter(place, number) => {
-            put_column(out, *place)?;
-            write!(out, "x{number}")
-        }
+        Expr::Integer(place, i) => write!(out, "{}:{i}", place.column),
+        Expr::Parameter(place, number) => write!(out, "{}:x{number}", place.column),
         Expr::Operation(place, operator, a, b) => {
             put_column(out, *place)?;
-            out.push_str(match operator {
-                Operator::Add => "(+",
-                Operator::Subtract => "(-",
-                Operator::Multiply => "(*",
-            })?;
+            out.push_str(operator_text(*operator))?;
             put_next(out, a.get())?;
             put_next(out, b.get())?;
             out.push_str(")")
@@ -160,10 +48,7 @@ fn put_expr(out: &mut String, expr: &Expr) -> Result<(), AllocError> {
             put_column(out, *place)?;
             out.push_str("(if ")?;
             put_column(out, *at)?;
-            out.push_str(match comparison {
-                Comparison::Less => "(<",
-                Comparison::Equal => "(=",
-            })?;
+            out.push_str(comparison_text(*comparison))?;
             put_next(out, a.get())?;
             put_next(out, b.get())?;
             out.push_str(")")?;
@@ -181,10 +66,7 @@ fn put_expr(out: &mut String, expr: &Expr) -> Result<(), AllocError> {
             }
             out.push_str(")")
         }
-        Expr::ReadByte(place) => {
-            put_column(out, *place)?;
-            out.push_str("(read-byte)")
-        }
+        Expr::ReadByte(place) => write!(out, "{}:(read-byte)", place.column),
     }
 }
 
@@ -302,7 +184,7 @@ const KEYWORDS: &[u8] =
 (define (main) 1) (define (f <) 1)\n\
 (define (main) 1) (define (f =) 1)";
 
-// Symbols and integers.
+// Symbols and integers, and other data, which are no expressions.
 const WORDS: &[u8] =
     b"(define (main) 1) (define (->x ... a.b@+9 $%&*/:<=>?^_~! ->) a.b@+9)|1:[main 0 16:1]19:[->x 4 62:x1]\n\
 (define (main) 1) (define (f 7) 7)\n\
@@ -315,7 +197,13 @@ const WORDS: &[u8] =
 (define (main) (7 1) 2)\n\
 (define (main) 9223372036854775807)|1:[main 0 16:9223372036854775807]\n\
 (define (main) -9223372036854775808)|1:[main 0 16:-9223372036854775808]\n\
-(define (main) +)";
+(define (main) +)\n\
+(define (main) #t)\n\
+(define (main) #a)\n\
+(define (main) \"7)\n\
+(define (main) [+ 1 2])\n\
+(define (main) {+ 1})\n\
+(define (main) main)";
 
 // The text of a row, and what it is.
 fn halves(row: &[u8]) -> (&[u8], &[u8]) {
@@ -349,9 +237,8 @@ fn resolved_forms(alloc: Global, names: &Names, forms: &[Datum]) -> Result<Strin
 
 // The same of a text.
 fn resolved(alloc: Global, text: &[u8]) -> Result<String, Fail> {
-    let mut names = Names::new(alloc);
-    let forms = data(alloc, &mut names, text)?;
-    resolved_forms(alloc, &names, forms.as_slice())
+    let reading = read(alloc, text)?;
+    resolved_forms(alloc, &reading.names, reading.inner.as_slice())
 }
 
 #[test]
@@ -371,17 +258,6 @@ fn resolves(rt: HostRuntime) -> Result<(), Fail> {
     Ok(())
 }
 
-// The text of a program with a procedure of so many parameters, of which the last has this name.
-fn with_parameters(alloc: Global, count: u32, last: &str) -> Result<String, AllocError> {
-    let mut text = String::new(alloc);
-    text.push_str("(define (main) 1) (define (f")?;
-    for number in 1..count {
-        write!(text, " x{number}")?;
-    }
-    write!(text, " {last}) {last})")?;
-    Ok(text)
-}
-
 #[test]
 fn counts_parameters(rt: HostRuntime) -> Result<(), Fail> {
     for (count, last, want) in [
@@ -389,50 +265,29 @@ fn counts_parameters(rt: HostRuntime) -> Result<(), Fail> {
         (128, "last", ""),
         (127, "x1", ""),
     ] {
-        let text = with_parameters(rt.alloc(), count, last)?;
+        let text = with_parameters(rt.alloc(), count, last, last)?;
         assert_eq!(rt; resolved(rt.alloc(), text.as_bytes())?.as_str(), want);
     }
     Ok(())
 }
 
-// What `(define (main) D)` is, where D is a datum of this kind.
-fn resolved_value(alloc: Global, mut names: Names, value: DatumKind) -> Result<String, Fail> {
-    let mut head = Items::new(alloc);
-    head.push(datum(10, symbol(&mut names, b"main")?))?;
-    let mut form = Items::new(alloc);
-    form.push(datum(2, symbol(&mut names, b"define")?))?;
-    form.push(datum(9, DatumKind::List(head)))?;
-    form.push(datum(16, value))?;
-    let mut forms = Items::new(alloc);
-    forms.push(datum(1, DatumKind::List(form)))?;
-    resolved_forms(alloc, &names, forms.as_slice())
-}
-
 #[test]
-fn other_data_are_no_expressions(rt: HostRuntime) -> Result<(), Fail> {
+fn a_number_without_a_text_is_no_name(rt: HostRuntime) -> Result<(), Fail> {
     let alloc = rt.alloc();
+    // The names in order of the text: define, main, f, x.
+    let reading = read(alloc, b"(define (main) 1) (define (f x) x)")?;
     let mut names = Names::new(alloc);
-    let front = data(alloc, &mut names, b"+ 1")?;
-    let last = Boxed::new(alloc, datum(20, DatumKind::Integer(2)))?;
-    let dotted = DatumKind::Dotted(front, last);
-    assert_eq!(rt; resolved_value(alloc, names, dotted)?.as_str(), "");
-    let mut names = Names::new(alloc);
-    let vector = DatumKind::Vector(data(alloc, &mut names, b"+ 1 2")?);
-    assert_eq!(rt; resolved_value(alloc, names, vector)?.as_str(), "");
-    let seven = DatumKind::Text(Items::from_slice(alloc, b"7")?);
-    assert_eq!(rt;
-        resolved_value(alloc, Names::new(alloc), seven)?.as_str(),
-        ""
-    );
-    for (value, want) in [
-        (DatumKind::Integer(7), "1:[main 0 16:7]"),
-        (DatumKind::Boolean(true), ""),
-        (DatumKind::Char(55), ""),
-        (DatumKind::Symbol(Name(0)), ""),
-        (DatumKind::Symbol(Name(2)), ""),
+    for (word, want) in [
+        (b"define".as_slice(), ""),
+        (b"main", ""),
+        (b"f", ""),
+        (b"x", "1:[main 0 16:1]19:[f 1 33:x0]"),
     ] {
+        if names.len() < u32::MAX {
+            names.add(word)?;
+        }
         assert_eq!(rt;
-            resolved_value(alloc, Names::new(alloc), value)?.as_str(),
+            resolved_forms(alloc, &names, reading.inner.as_slice())?.as_str(),
             want
         );
     }
@@ -440,17 +295,17 @@ fn other_data_are_no_expressions(rt: HostRuntime) -> Result<(), Fail> {
 }
 
 // The program that a text is.
-fn program_of(alloc: Global, names: &mut Names, text: &[u8]) -> Result<Program, Fail> {
-    let forms = data(alloc, names, text)?;
-    Ok(program(alloc, names, forms.as_slice())?.ok_or("no program")?)
+fn program_of(alloc: Global, text: &[u8]) -> Result<Program, Fail> {
+    let reading = read(alloc, text)?;
+    let forms = reading.inner.as_slice();
+    Ok(program(alloc, &reading.names, forms)?.ok_or("no program")?)
 }
 
 // A result without 64 bits is told at the place of its operation.
 #[test]
 fn an_operation_has_the_place_of_its_bracket(rt: HostRuntime) -> Result<(), Fail> {
-    let mut names = Names::new(rt.alloc());
     let text = b"(define (main) (- 1  (* 9223372036854775807 2)))";
-    let program = program_of(rt.alloc(), &mut names, text)?;
+    let program = program_of(rt.alloc(), text)?;
     let main = program.procedures.as_slice().first().ok_or("no procedure")?;
     let Expr::Operation(difference, _, _, right) = &main.value else {
         return Err("no operation".into());
@@ -465,10 +320,9 @@ fn an_operation_has_the_place_of_its_bracket(rt: HostRuntime) -> Result<(), Fail
 
 #[test]
 fn a_procedure_has_its_name_and_place(rt: HostRuntime) -> Result<(), Fail> {
-    let mut names = Names::new(rt.alloc());
     // The names in order of the text: define, f, x, main.
     let text = b"(define (f x) x) (define (main) (f 1))";
-    let program = program_of(rt.alloc(), &mut names, text)?;
+    let program = program_of(rt.alloc(), text)?;
     let [main, f] = program.procedures.as_slice() else {
         return Err("another number of procedures".into());
     };

@@ -4,6 +4,7 @@ use Rattle.ps_read.specs.Lexical.{resolved, noted}
 use Rattle.ps_read.specs.Reading.{AreNames}
 use Rattle.ps_read.proofs.Identifiers.{noted_names}
 use Rattle.ps_read.proofs.Texts.{next_is, noted_within}
+use Rattle.ps_read.proofs.GrownTables.{grown_front}
 use Rattle.ps_read.proofs.reading.next_front.Goals as goal
 
 pub returns-clause-within : goal.returns-clause-within
@@ -14,3 +15,6 @@ returns-clause-names_len c = let e = ap length c.in_ok-front.ensures.noted in om
 
 pub returns-clause-identifiers : goal.returns-clause-identifiers
 returns-clause-identifiers c = λ are. subst AreNames (sym (c.in_ok-front.ensures.noted ∙ ap (noted c.args.names.now) c.in_ok-raw.ensures)) (noted_names c.args.names.now (slice_index c.args.text.now 0) (drop 1 c.args.text.now) are)
+
+pub returns-clause-kept : goal.returns-clause-kept
+returns-clause-kept c = grown_front c.args.names.now _ c.in_ok-raw.raw c.in_ok-front.ensures.noted

@@ -13,10 +13,10 @@ pub unreachable-requires-in_default-word : goal.unreachable-requires-in_default-
 unreachable-requires-in_default-word c =
     let parts = c.in-Some.parts.now in
     let rest = take (length parts - 1) (drop 1 parts) in
-    not_nameless c.args.names.now c.head_and_body.result.0.now parts c.in-Some.ensures c.head_and_body.ensures.shape c.first-item.result rest (one_first parts c.first-item.result c.in-len1-up.len_at_least c.first-item.is) c.in_default-word.ensures
+    not_nameless c.args.names.now c.head_and_body.result.0.now parts c.in-Some.ensures c.head_and_body.ensures.shape c.first-item.result rest (one_first parts c.first-item.result c.in-len1-up.len_at_least c.first-item.is) c.in_default-word.ensures.tells
 
 pub returns : goal.returns
 returns c =
     let parts = c.in-Some.parts.now in
     let rest = take (length parts - 1) (drop 1 parts) in
-    has_parts c.args.names.now c.head_and_body.result.0.now parts c.in-Some.ensures c.head_and_body.ensures.shape c.first-item.result rest (one_first parts c.first-item.result c.in-len1-up.len_at_least c.first-item.is) c.args.form.now _ c.head_and_body.ensures c.in-Some-word.ensures refl refl
+    has_parts c.args.names.now c.head_and_body.result.0.now parts c.in-Some.ensures c.head_and_body.ensures.shape c.first-item.result rest (one_first parts c.first-item.result c.in-len1-up.len_at_least c.first-item.is) c.args.form.now _ c.head_and_body.ensures c.in-Some-word.ensures.tells refl refl
