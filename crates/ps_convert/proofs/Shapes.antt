@@ -94,7 +94,7 @@ module _ (structure : Name) (p : PlainProgram) where
   abbrev k : Kernel
   k = kernel_of structure p
 
-  forms_flat : (n : ℕ) (qs : List PlainProcedure) → joined (map (λ (f : Form). groups_in (form_expr k f)) (forms_from n qs)) ≡ []
+  forms_flat : (n : ℕ) (qs : List PlainProcedure) → joined (map (λ (f : Form). groups_in (form_expr f)) (forms_from n qs)) ≡ []
   forms_flat n [] = refl
   forms_flat n (q ∷ qs) = both_none (groups_by q.place _ _ (fold-lambda groups_node (λ e. e.kind) n)) (forms_flat (suc n) qs)
 

@@ -16,6 +16,7 @@ use ps_kernel::{
 use ps_plain::{Comparison, Expr as Plain, Operator, Procedure, Program, Write};
 use std::alloc::Global;
 
+// The primitive of an operator.
 fn operator(o: Operator) -> PrimName
     ensures { result ≡ operator o }
 {
@@ -26,6 +27,7 @@ fn operator(o: Operator) -> PrimName
     }
 }
 
+// The primitive of a comparison.
 fn comparison(q: Comparison) -> PrimName
     ensures { result ≡ comparison q }
 {
@@ -35,12 +37,14 @@ fn comparison(q: Comparison) -> PrimName
     }
 }
 
+// An expression of a kind, at a place.
 fn expr_at(place: Place, kind: ExprKind) -> Expr
     ensures { result ≡ expr_at place kind }
 {
     Expr { place, kind }
 }
 
+// A primitive and its operands, at a place.
 fn primitive(place: Place, name: PrimName, operands: Exprs) -> Expr
     ensures { result ≡ primitive place name operands }
 {
@@ -144,7 +148,6 @@ fn sequence(place: Place, writes: Exprs, value: Expr) -> Result<Expr, NoMemory>
 }
 
 // So many numbers from one on.
-
 fn numbers(alloc: Global, first: u32, count: u32) -> Result<Numbers, NoMemory>
     requires { first + count < 4294967296 }
     ensures { IfOk result (λ r. r ≡ numbers_from first count) }
@@ -156,6 +159,7 @@ fn numbers(alloc: Global, first: u32, count: u32) -> Result<Numbers, NoMemory>
     Ok(all)
 }
 
+// The lambda of a procedure whose first parameter is this local.
 fn lambda(alloc: Global, first: u32, q: &Procedure) -> Result<Lambda, NoMemory>
     requires fits { first + q.now.parameters < 4294967296 }
     requires within { procedure_within q.now ≡ true }
@@ -187,6 +191,7 @@ fn lambdas(alloc: Global, qs: &[Procedure]) -> Result<Lambdas, NoMemory>
     Ok(all)
 }
 
+// The definitions of procedures, in a structure of this name.
 fn definitions(alloc: Global, structure: Name, qs: &[Procedure]) -> Result<Definitions, NoMemory>
     ensures { IfOk result (λ r. r ≡ map (definition_of structure) qs.now) }
 {

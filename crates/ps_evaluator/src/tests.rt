@@ -2,6 +2,7 @@
 
 mod building;
 mod memory;
+mod order;
 mod procedures;
 mod texts;
 mod values;

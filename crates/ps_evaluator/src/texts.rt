@@ -5,7 +5,6 @@ ghost use Rattle.std.specs.List.{list_any};
 ghost use Rattle.ps_kernel.specs.declared.expr.GroupEntry.{GroupEntry as EntrySpec};
 ghost use Rattle.ps_kernel.specs.declared.kernel.Form.{Form as FormSpec};
 ghost use Rattle.ps_kernel.specs.declared.kernel.Lambda.{Lambda as LambdaSpec};
-ghost use Rattle.ps_kernel.specs.declared.kernel.Kernel.{Kernel as KernelSpec};
 ghost use Rattle.ps_kernel.specs.Texts.{all_groups, expr_of, group_of, groups_in, joined, lambdas_in, lambdas_of, locals_in, locals_within};
 ghost use Rattle.ps_evaluator.specs.Lists.{first_with};
 ghost use Rattle.ps_meaning.specs.Eval.{mentioned};
@@ -167,7 +166,7 @@ fn add_each_groups(alloc: Global, es: &[Expr], all: &mut Groups) -> Result<(), N
 
 // The expression of a form.
 fn expr_of(form: &Form) -> &Expr
-    ensures { (k : KernelSpec) → result.now ≡ expr_of k form.now }
+    ensures { result.now ≡ expr_of form.now }
 {
     match form {
         Form::Define(_, e) => e,
@@ -177,7 +176,7 @@ fn expr_of(form: &Form) -> &Expr
 
 // Adds the groups of the forms.
 fn add_form_groups(alloc: Global, forms: &[Form], all: &mut Groups) -> Result<(), NoMemory>
-    ensures { (k : KernelSpec) → IfOk result (λ done. all.new ≡ all.old ++ joined (map (λ (f : FormSpec). groups_in (expr_of k f)) forms.now)) }
+    ensures { IfOk result (λ done. all.new ≡ all.old ++ joined (map (λ (f : FormSpec). groups_in (expr_of f)) forms.now)) }
 {
     for form in forms {
         add_groups(alloc, expr_of(form), all)?;

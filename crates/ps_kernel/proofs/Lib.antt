@@ -7,3 +7,4 @@ pub mod Going
 pub mod Literals
 pub mod Texts
 pub mod Scopes
+pub mod Example

@@ -15,7 +15,8 @@ use Rattle.ps_kernel.specs.Texts.{locals_of}
 use Rattle.ps_kernel.specs.Marks.{Mark, Node, Stands, Binds, Mentions, Names, Sequence, Replaces, Performs, Reading, constant_marks, sequence_marks, part_marks, body_marks, lambda_marks, group_marks, layer, marks}
 use Rattle.ps_kernel.specs.Once.{times, AtMostOnce}
 use Rattle.ps_kernel.specs.Rules.{nodes, standing, bound, stands_in, is_in_scope}
-use Rattle.ps_kernel.specs.Valid.{expr_of, form_marks}
+use Rattle.ps_kernel.specs.Texts.{expr_of}
+use Rattle.ps_kernel.specs.Valid.{form_marks}
 use Rattle.ps_kernel.specs.Steps.{Step, Passes, Closes, Walking, opens, opens_entry, closes_entry, constant_steps, sequence_steps, part_steps, body_steps, lambda_steps, group_steps, layer_steps, steps, form_steps, passed, without, is_scoped}
 use Rattle.ps_kernel.specs.Walking.{is_right_alone}
 use Rattle.ps_kernel.proofs.Tables.{in_times, without_same, without_other}

@@ -7,3 +7,4 @@ pub mod Steps
 pub mod Sizes
 pub mod Captured
 pub mod Walking
+pub mod Worked

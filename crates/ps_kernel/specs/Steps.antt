@@ -12,7 +12,7 @@ use Rattle.ps_kernel.specs.declared.kernel.Kernel.{Kernel}
 use Rattle.ps_kernel.specs.declared.kernel.Lambda.{Lambda}
 use Rattle.ps_kernel.specs.Marks.{Mark, Node, TooDeep, Stands, Binds, Mentions, Names, Sequence, Replaces, Performs, constant_marks}
 use Rattle.ps_kernel.specs.Rules.{stands_in}
-use Rattle.ps_kernel.specs.Valid.{expr_of}
+use Rattle.ps_kernel.specs.Texts.{expr_of}
 
 pub data Step : Type 0 where
   Passes : Mark → Step
@@ -41,6 +41,9 @@ sequence_steps inner tail (e ∷ f ∷ es) = inner false e ++ sequence_steps inn
 abbrev pub part_steps : Walking → List Expr → List Step
 part_steps inner es = flat_map (inner false) es
 
+abbrev pub if_steps : Walking → Bool → Expr → Expr → Expr → List Step
+if_steps inner tail a b c = inner false a ++ (inner tail b ++ inner tail c)
+
 abbrev pub let_steps : Walking → Bool → ℕ → Expr → Expr → List Step
 let_steps inner tail x a b = inner false a ++ (Passes (Binds x) ∷ (inner tail b ++ Closes x ∷ []))
 
@@ -66,7 +69,7 @@ module _ (k : Kernel) where
   layer_steps inner tail (ExprKind-F.Local x) = Passes (Mentions x []) ∷ []
   layer_steps inner tail (ExprKind-F.Global g) = Passes (Names g) ∷ []
   layer_steps inner tail (ExprKind-F.Lambda l) = lambda_steps inner l
-  layer_steps inner tail (ExprKind-F.If a b c) = inner false a ++ (inner tail b ++ inner tail c)
+  layer_steps inner tail (ExprKind-F.If a b c) = if_steps inner tail a b c
   layer_steps inner tail (ExprKind-F.Let x a b) = let_steps inner tail x a b
   layer_steps inner tail (ExprKind-F.Letrec g b) = letrec_steps inner tail g b
   layer_steps inner tail (ExprKind-F.Begin es) = Passes (Sequence (length es)) ∷ sequence_steps inner tail es

@@ -25,38 +25,33 @@ expr_at p kind = roll-Expr (record { place = p; kind = kind })
 
 -- ---- one expression, without the bodies of the lambdas that stand in it
 
+-- what is found in the parts of an expression, from left to right
+abbrev pub in_parts : {A : Type 0} → ExprKind-F (List A) (List A) → List A
+in_parts (ExprKind-F.Constant c) = []
+in_parts (ExprKind-F.Local x) = []
+in_parts (ExprKind-F.Global g) = []
+in_parts (ExprKind-F.Lambda l) = []
+in_parts (ExprKind-F.If a b c) = a ++ (b ++ c)
+in_parts (ExprKind-F.Let x a b) = a ++ b
+in_parts (ExprKind-F.Letrec g b) = b
+in_parts (ExprKind-F.Begin es) = joined es
+in_parts (ExprKind-F.SetGlobal g a) = a
+in_parts (ExprKind-F.Call f es) = f ++ joined es
+in_parts (ExprKind-F.ProperCall f es) = f ++ joined es
+in_parts (ExprKind-F.Primitive p es) = joined es
+
 -- the locals that are mentioned
 abbrev pub locals_node : ExprKind-F (List ℕ) (List ℕ) → List ℕ
-locals_node (ExprKind-F.Constant c) = []
 locals_node (ExprKind-F.Local x) = x ∷ []
-locals_node (ExprKind-F.Global g) = []
-locals_node (ExprKind-F.Lambda l) = []
-locals_node (ExprKind-F.If a b c) = a ++ (b ++ c)
-locals_node (ExprKind-F.Let x a b) = a ++ b
-locals_node (ExprKind-F.Letrec g b) = b
-locals_node (ExprKind-F.Begin es) = joined es
-locals_node (ExprKind-F.SetGlobal g a) = a
-locals_node (ExprKind-F.Call f es) = f ++ joined es
-locals_node (ExprKind-F.ProperCall f es) = f ++ joined es
-locals_node (ExprKind-F.Primitive p es) = joined es
+locals_node e = in_parts e
 
 abbrev pub locals_in : Expr → List ℕ
 locals_in = fold-Expr (List ℕ) (List ℕ) locals_node (λ e. e.kind)
 
 -- the letrec groups
 abbrev pub groups_node : ExprKind-F (List (List GroupEntry)) (List (List GroupEntry)) → List (List GroupEntry)
-groups_node (ExprKind-F.Constant c) = []
-groups_node (ExprKind-F.Local x) = []
-groups_node (ExprKind-F.Global g) = []
-groups_node (ExprKind-F.Lambda l) = []
-groups_node (ExprKind-F.If a b c) = a ++ (b ++ c)
-groups_node (ExprKind-F.Let x a b) = a ++ b
 groups_node (ExprKind-F.Letrec g b) = g ∷ b
-groups_node (ExprKind-F.Begin es) = joined es
-groups_node (ExprKind-F.SetGlobal g a) = a
-groups_node (ExprKind-F.Call f es) = f ++ joined es
-groups_node (ExprKind-F.ProperCall f es) = f ++ joined es
-groups_node (ExprKind-F.Primitive p es) = joined es
+groups_node e = in_parts e
 
 abbrev pub groups_in : Expr → List (List GroupEntry)
 groups_in = fold-Expr (List (List GroupEntry)) (List (List GroupEntry)) groups_node (λ e. e.kind)
@@ -71,21 +66,17 @@ locals_of g = map (λ (e : GroupEntry). e.local) g
 
 -- the lambdas that stand in it, those of groups too
 abbrev pub lambdas_node : ExprKind-F (List ℕ) (List ℕ) → List ℕ
-lambdas_node (ExprKind-F.Constant c) = []
-lambdas_node (ExprKind-F.Local x) = []
-lambdas_node (ExprKind-F.Global g) = []
 lambdas_node (ExprKind-F.Lambda l) = l ∷ []
-lambdas_node (ExprKind-F.If a b c) = a ++ (b ++ c)
-lambdas_node (ExprKind-F.Let x a b) = a ++ b
 lambdas_node (ExprKind-F.Letrec g b) = lambdas_of g ++ b
-lambdas_node (ExprKind-F.Begin es) = joined es
-lambdas_node (ExprKind-F.SetGlobal g a) = a
-lambdas_node (ExprKind-F.Call f es) = f ++ joined es
-lambdas_node (ExprKind-F.ProperCall f es) = f ++ joined es
-lambdas_node (ExprKind-F.Primitive p es) = joined es
+lambdas_node e = in_parts e
 
 abbrev pub lambdas_in : Expr → List ℕ
 lambdas_in = fold-Expr (List ℕ) (List ℕ) lambdas_node (λ e. e.kind)
+
+-- the expression of a form
+abbrev pub expr_of : Form → Expr
+expr_of (Define g e) = e
+expr_of (Do e) = e
 
 -- ---- lambdas
 
@@ -105,10 +96,6 @@ module _ (k : Kernel) where
   -- the text of a lambda mentions a local
   abbrev pub text_mentions : ℕ → ℕ → Bool
   text_mentions l x = list_any (λ y. y == x) (text_locals l)
-
-  abbrev pub expr_of : Form → Expr
-  expr_of (Define g e) = e
-  expr_of (Do e) = e
 
   -- the letrec groups of the whole kernel: those of the forms, and then those of the bodies
   abbrev pub all_groups : List (List GroupEntry)

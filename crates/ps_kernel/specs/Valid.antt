@@ -9,11 +9,11 @@ use Rattle.ps_datum.specs.declared.datum.DatumKind.{DatumKind, out-DatumKind}
 use Rattle.ps_datum.specs.declared.datum.DatumKind.TheOpen.{DatumKind-F}
 use Rattle.ps_types.specs.declared.types.Ty.{Ty, Ty-F, fold-Ty}
 use Rattle.ps_types.specs.declared.types.RecordKind.{RecordKind}
-use Rattle.ps_kernel.specs.declared.expr.Expr.{Expr}
 use Rattle.ps_kernel.specs.declared.kernel.Form.{Form}
 use Rattle.ps_kernel.specs.declared.kernel.Form.TheVariants.{Define, Do}
 use Rattle.ps_kernel.specs.declared.kernel.Kernel.{Kernel}
 use Rattle.ps_kernel.specs.Once.{AtMostOnce, EachOnce}
+use Rattle.ps_kernel.specs.Texts.{expr_of}
 use Rattle.ps_kernel.specs.Marks.{Mark, marks}
 use Rattle.ps_kernel.specs.Rules.{has_number, has_operands, has_parts, has_tail, has_level, nodes, standing, bound, is_in_scope}
 
@@ -26,10 +26,6 @@ abbrev pub all_of : List Bool → Bool
 all_of bs = list_all (λ b. b) bs
 
 -- ---- forms
-
-abbrev pub expr_of : Form → Expr
-expr_of (Define g e) = e
-expr_of (Do e) = e
 
 -- the definitions that have forms
 abbrev pub defined : List Form → List ℕ

@@ -3,6 +3,7 @@
 
 mod expr;
 mod kernel;
+mod laws;
 mod survivors;
 mod validity;
 
@@ -10,6 +11,7 @@ pub use expr::{Constant, Expr, ExprKind, Exprs, Group, GroupEntry, Operation};
 pub use kernel::{
     Definition, Definitions, Form, Forms, Kernel, Lambda, Lambdas, Literals, Numbers,
 };
+pub use laws::{example_keeps, example_sizes};
 pub use survivors::{
     DefinitionScheme, Kept, KeptBlock, KeptGlobal, KeptProcedure, LocalTy, NumberedBlock,
     ProcedureTypes, Survivors, Typed,

@@ -7,6 +7,8 @@ mod kinds;
 mod literals;
 mod locals;
 mod once;
+mod operations;
+mod passing;
 mod text;
 mod walk;
 

@@ -10,3 +10,4 @@ pub mod SortsEmbed
 pub mod RowsEmbed
 pub mod Embedding
 pub mod RecordsEmbed
+pub mod Roomier

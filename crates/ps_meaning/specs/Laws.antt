@@ -1,7 +1,7 @@
 -- Laws of the source's meaning.
 use Rattle.std.specs.Prelude.{◌≡◌, ◌≢◌, ℕ, ◌≤◌, List}
 use Rattle.byte_store.specs.Agree.{KeepsWhatItHas}
-use Rattle.byte_store.specs.Outcome.{Running}
+use Rattle.byte_store.specs.Outcome.{Outcome, Begins, Running, StoppedAtCells}
 use Rattle.byte_store.specs.Worlds.{Surroundings}
 use Rattle.ps_base.specs.declared.faults.Place.{Place}
 use Rattle.byte_store.specs.declared.pointer.Value.{Value}
@@ -33,3 +33,22 @@ CallsEnterProcedures =
 abbrev pub CompileCallsEnter : Type 0
 CompileCallsEnter =
     (k : Kernel) (n d : ℕ) (at : Place) (l : ℕ) (vs : List Value) (s : State Value) → s.calls ≤ n → compile_enters k n d at l vs s ≡ compile_entering k (compile_enters k n) d at l vs s
+
+-- ---- cells
+
+-- The second does what the first does, unless the first was stopped at its cells: then it goes on.
+pub record StopsOnlyAtCells (o p : Outcome) : Type 0 where
+  pub stays : o.end ≢ StoppedAtCells → p ≡ o
+  pub adds : Begins o.events p.events
+
+-- a limit on cells only stops a run
+abbrev pub CellsOnlyStop : Type 0
+CellsOnlyStop = (p : Program) (w : Surroundings) (cells n : ℕ) → StopsOnlyAtCells (Traced p w cells n) (Source p w n)
+
+-- and a higher one stops it later, or never
+abbrev pub MoreCellsKeep : Type 0
+MoreCellsKeep = (p : Program) (w : Surroundings) (c d n : ℕ) → c ≤ d → StopsOnlyAtCells (Traced p w c n) (Traced p w d n)
+
+-- the same at compile time
+abbrev pub MoreCellsKeepForms : Type 0
+MoreCellsKeepForms = (k : Kernel) (n c d : ℕ) → c ≤ d → Top k n c ≢ Halted (Ends StoppedAtCells) → Top k n d ≡ Top k n c

@@ -1,6 +1,6 @@
 -- Makers, predicates, accessors and modifiers of records (this project's own).
 --
--- A record is a pointer to a block with a cell for each field, in the order of the fields, or null. Read `perform_maker` and those that follow it`
+-- A record is a pointer to a block with a cell for each field, in the order of the fields, or null. Read `perform_maker` and those that follow it
 -- as rows of a table: the maker of a kind takes a value for each field, in an order of its own; the others take a record of
 -- their kind first. A value of another kind than the row's is Wrong.
 use Rattle.std.specs.Prelude.{ℕ, pos, List, [], ◌∷◌, length, replicate, nat_eq, Bool, true, false, not, Option, Some, None, Result, Ok, is_some, if◌then◌else◌, slice_get}

@@ -1,6 +1,6 @@
 //! Laws of the definitions. Each is the contract of a function that does nothing.
 
-ghost use Rattle.ps_meaning.specs.Laws.{CallsEnterProcedures, CompileCallsEnter, LargerBoundKeeps, LargerBoundKeepsTraced, LargerBudgetKeeps};
+ghost use Rattle.ps_meaning.specs.Laws.{CallsEnterProcedures, CellsOnlyStop, CompileCallsEnter, LargerBoundKeeps, LargerBoundKeepsTraced, LargerBudgetKeeps, MoreCellsKeep, MoreCellsKeepForms};
 ghost use Rattle.ps_meaning.specs.RunOnly.{RunOnlyAtItsPlace};
 ghost use Rattle.ps_meaning.specs.Embedding.{PrimitivesEmbed, MakersEmbed, PredicatesEmbed, AccessorsEmbed, ModifiersEmbed};
 
@@ -19,6 +19,19 @@ pub fn larger_bound_keeps()
 /// The same of runs whose cells are counted.
 pub fn larger_bound_keeps_traced()
     ensures { LargerBoundKeepsTraced }
+{}
+
+/// For every program and world, a run whose cells are counted does what the program does without a limit on cells, unless it is
+/// stopped at its cells: then the program goes on from there. With more cells it does the same, or is stopped later.
+pub fn cells_only_stop()
+    ensures none { CellsOnlyStop }
+    ensures more { MoreCellsKeep }
+{}
+
+/// For every kernel, what the top-level forms come to with so many cells, unless it is that the cells were spent, they come to
+/// with more.
+pub fn more_cells_keep_forms()
+    ensures { MoreCellsKeepForms }
 {}
 
 /// A call with no more calls left than the bound does what entering its procedure does, where calls do the same: the bound on

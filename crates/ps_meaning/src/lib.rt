@@ -8,7 +8,8 @@ mod laws;
 mod values;
 
 pub use laws::{
-    calls_enter_procedures, compile_calls_enter, larger_bound_keeps, larger_bound_keeps_traced,
-    larger_budget_keeps, primitives_embed, record_operations_embed, run_only_at_its_place,
+    calls_enter_procedures, cells_only_stop, compile_calls_enter, larger_bound_keeps,
+    larger_bound_keeps_traced, larger_budget_keeps, more_cells_keep_forms, primitives_embed,
+    record_operations_embed, run_only_at_its_place,
 };
 pub use values::{Binding, Bindings, RunValue};

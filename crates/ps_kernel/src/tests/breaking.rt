@@ -86,6 +86,20 @@ fn forms_that_break_a_rule(rt: HostRuntime) -> Result<(), Fail> {
     Ok(())
 }
 
+#[test]
+fn operands_of_records(rt: HostRuntime) -> Result<(), Fail> {
+    let alloc = rt.alloc();
+    let e = Ok(perform(Operation::Predicate(0), Exprs::new(alloc)));
+    form(&rt, alloc, "nothing to be told", e)?;
+    let e = of_two(alloc, Operation::Predicate(0), unit(), unit());
+    form(&rt, alloc, "two to be told", e)?;
+    let e = Ok(perform(Operation::Accessor(0, 0), Exprs::new(alloc)));
+    form(&rt, alloc, "no record to read", e)?;
+    let e = of_two(alloc, Operation::Accessor(0, 0), unit(), unit());
+    form(&rt, alloc, "two records to read", e)?;
+    Ok(())
+}
+
 // A kernel with one more lambda breaks a rule.
 fn body(
     rt: &impl Abort,
@@ -176,6 +190,13 @@ fn symbol() -> Datum {
     datum(DatumKind::Symbol(Name(0)))
 }
 
+fn dotted(alloc: Global) -> Result<Datum, NoMemory> {
+    let one = datum(DatumKind::Integer(1));
+    let mut front = Items::new(alloc);
+    front.push(datum(DatumKind::Integer(2)))?;
+    Ok(datum(DatumKind::Dotted(front, Boxed::new(alloc, one)?)))
+}
+
 #[test]
 fn literals_that_break_a_rule(rt: HostRuntime) -> Result<(), Fail> {
     let alloc = rt.alloc();
@@ -185,6 +206,13 @@ fn literals_that_break_a_rule(rt: HostRuntime) -> Result<(), Fail> {
     literal(&rt, alloc, "one in a vector", vector(alloc, empty(alloc)))?;
     literal(&rt, alloc, "a symbol in a vector", vector(alloc, symbol()))?;
     literal(&rt, alloc, "a list in a vector", vector(alloc, list(alloc)))?;
+    let inner = dotted(alloc)?;
+    literal(
+        &rt,
+        alloc,
+        "a dotted list in a vector",
+        vector(alloc, inner),
+    )?;
     Ok(())
 }
 

@@ -1,20 +1,18 @@
 //! A walk through the text of a kernel, from mark to mark. It does nothing more once a mark is wrong.
 
-ghost use Rattle.std.specs.Prelude.{◌≡◌, [], map, OnOk, length, slice_get, nat_lt, ◌==◌};
-ghost use Rattle.std.specs.List.{flat_map, fold};
-ghost use Rattle.ps_kernel.specs.Marks.{Node, TooDeep, Stands, Binds, Mentions, Names, Sequence, Replaces, Performs};
-ghost use Rattle.ps_kernel.specs.Steps.{Passes, Closes, opens, opens_entry, closes_entry, constant_steps, sequence_steps, part_steps, let_steps, letrec_steps, call_steps, lambda_steps, group_steps, steps, kind_steps};
-ghost use Rattle.ps_kernel.specs.Walking.{step, checked};
-ghost use Rattle.ps_kernel.specs.Rules.{field_known, fields_in, operation_known, operands};
+ghost use Rattle.std.specs.Prelude.{◌≡◌, OnOk};
+ghost use Rattle.std.specs.List.{fold};
+ghost use Rattle.ps_kernel.specs.Steps.{sequence_steps, part_steps, if_steps, let_steps, letrec_steps, call_steps, lambda_steps, group_steps, steps, kind_steps};
+ghost use Rattle.ps_kernel.specs.Walking.{step};
 
-use crate::expr::{Constant, Expr, ExprKind, GroupEntry, Operation};
+use crate::expr::{Expr, ExprKind, GroupEntry};
 use crate::kernel::Kernel;
 use crate::validity::locals::Locals;
+use crate::validity::passing::{
+    begin, close, close_all, close_group, meet_lambda, meet_node, meet_too_deep, mention,
+    name_global, open, open_all, open_group, perform, quote, replace,
+};
 use ps_base::{Flags, NoMemory};
-use ps_prims::arity_of;
-
-// The most nodes that a kernel may have.
-const NODES: u64 = 1_000_000;
 
 /// What a walk has met so far.
 #[derive(Drop)]
@@ -27,232 +25,6 @@ pub struct Walk {
     pub stands: Flags,
     /// The locals.
     pub locals: Locals,
-}
-
-// An expression.
-#[tactic(auto, unfolding(crate::specs::Walking::step))]
-fn meet_node(walk: &mut Walk, kernel: &Kernel)
-    ensures { walk.new ≡ step kernel.now walk.old (Passes Node) }
-{
-    if walk.right {
-        if walk.nodes < NODES {
-            walk.nodes += 1;
-        } else {
-            walk.right = false;
-        }
-    }
-}
-
-// An expression below the last level.
-#[tactic(auto, unfolding(crate::specs::Walking::step))]
-fn meet_too_deep(walk: &mut Walk, kernel: &Kernel)
-    ensures { walk.new ≡ step kernel.now walk.old (Passes TooDeep) }
-{
-    walk.right = false;
-}
-
-// A lambda, where it stands.
-#[tactic(auto, unfolding(crate::specs::Walking::step))]
-fn meet_lambda(walk: &mut Walk, kernel: &Kernel, lambda: u32)
-    ensures { walk.new ≡ step kernel.now walk.old (Passes (Stands lambda)) }
-{
-    if walk.right {
-        match walk.stands.get(lambda as usize) {
-            Some(false) => walk.stands.set(lambda as usize, true),
-            Some(true) => walk.right = false,
-            None => walk.right = false,
-        }
-    }
-}
-
-// The region of a local begins.
-#[tactic(auto, unfolding(crate::specs::Walking::step))]
-fn open(walk: &mut Walk, kernel: &Kernel, local: u32) -> Result<(), NoMemory>
-    ensures { OnOk result (walk.new ≡ step kernel.now walk.old (opens local)) }
-{
-    if walk.right {
-        match walk.locals.get(local) {
-            Some(_) => walk.right = false,
-            None => walk.locals.set(local, true)?,
-        }
-    }
-    Ok(())
-}
-
-// The region of a local ends.
-#[tactic(auto, unfolding(crate::specs::Walking::step))]
-fn close(walk: &mut Walk, kernel: &Kernel, local: u32) -> Result<(), NoMemory>
-    ensures { OnOk result (walk.new ≡ step kernel.now walk.old (Closes local)) }
-{
-    if walk.right {
-        match walk.locals.get(local) {
-            Some(_) => walk.locals.set(local, false)?,
-            None => {}
-        }
-    }
-    Ok(())
-}
-
-// A local is mentioned.
-#[tactic(auto, unfolding(crate::specs::Walking::step))]
-fn mention(walk: &mut Walk, kernel: &Kernel, local: u32)
-    ensures { walk.new ≡ step kernel.now walk.old (Passes (Mentions local [])) }
-{
-    if walk.right {
-        match walk.locals.get(local) {
-            Some(true) => {}
-            Some(false) => walk.right = false,
-            None => walk.right = false,
-        }
-    }
-}
-
-// The regions of locals begin.
-fn open_all(walk: &mut Walk, kernel: &Kernel, locals: &[u32]) -> Result<(), NoMemory>
-    ensures { OnOk result (walk.new ≡ fold (step kernel.now) walk.old (map opens locals.now)) }
-{
-    for local in locals {
-        open(walk, kernel, *local)?;
-    }
-    Ok(())
-}
-
-// The regions of locals end.
-fn close_all(walk: &mut Walk, kernel: &Kernel, locals: &[u32]) -> Result<(), NoMemory>
-    ensures { OnOk result (walk.new ≡ fold (step kernel.now) walk.old (map Closes locals.now)) }
-{
-    for local in locals {
-        close(walk, kernel, *local)?;
-    }
-    Ok(())
-}
-
-// The regions of a group's locals begin.
-fn open_group(walk: &mut Walk, kernel: &Kernel, group: &[GroupEntry]) -> Result<(), NoMemory>
-    ensures { OnOk result (walk.new ≡ fold (step kernel.now) walk.old (map opens_entry group.now)) }
-{
-    for entry in group {
-        open(walk, kernel, entry.local)?;
-    }
-    Ok(())
-}
-
-// The regions of a group's locals end.
-fn close_group(walk: &mut Walk, kernel: &Kernel, group: &[GroupEntry]) -> Result<(), NoMemory>
-    ensures { OnOk result (walk.new ≡ fold (step kernel.now) walk.old (map closes_entry group.now)) }
-{
-    for entry in group {
-        close(walk, kernel, entry.local)?;
-    }
-    Ok(())
-}
-
-// The next mark is right or not.
-#[tactic(auto, unfolding(crate::specs::Walking::checked))]
-fn check(walk: &mut Walk, right: bool)
-    ensures { walk.new ≡ checked right walk.old }
-{
-    if walk.right {
-        walk.right = right;
-    }
-}
-
-// Whether a kind has a field of this number.
-fn has_field(kernel: &Kernel, kind: u32, field: u32) -> bool
-    ensures { result ≡ field_known field (slice_get kernel.now.kinds kind) }
-{
-    match kernel.kinds.get(kind as usize) {
-        Some(kind) => (field as usize) < kind.fields.len(),
-        None => false,
-    }
-}
-
-// Whether the kinds and fields of an operation are there.
-fn is_known(kernel: &Kernel, operation: Operation) -> bool
-    ensures { result ≡ operation_known kernel.now.kinds operation }
-{
-    match operation {
-        Operation::Named(_) => true,
-        Operation::Maker(kind) => (kind as usize) < kernel.kinds.len(),
-        Operation::Predicate(kind) => (kind as usize) < kernel.kinds.len(),
-        Operation::Accessor(kind, field) => has_field(kernel, kind, field),
-        Operation::Modifier(kind, field) => has_field(kernel, kind, field),
-    }
-}
-
-// How many fields a kind has.
-fn fields_of(kernel: &Kernel, kind: u32) -> usize
-    ensures { result ≡ fields_in (slice_get kernel.now.kinds kind) }
-{
-    match kernel.kinds.get(kind as usize) {
-        Some(kind) => kind.fields.len(),
-        None => 0,
-    }
-}
-
-// How many operands an operation has.
-fn operands_of(kernel: &Kernel, operation: Operation) -> usize
-    ensures { result ≡ operands kernel.now.kinds operation }
-{
-    match operation {
-        Operation::Named(prim) => arity_of(prim) as usize,
-        Operation::Maker(kind) => fields_of(kernel, kind),
-        Operation::Predicate(_) => 1,
-        Operation::Accessor(_, _) => 1,
-        Operation::Modifier(_, _) => 2,
-    }
-}
-
-// A definition is named.
-#[tactic(auto, unfolding(crate::specs::Walking::checked, crate::specs::Walking::step))]
-fn name_global(walk: &mut Walk, kernel: &Kernel, global: u32)
-    ensures { walk.new ≡ step kernel.now walk.old (Passes (Names global)) }
-{
-    let right = (global as usize) < kernel.definitions.len();
-    check(walk, right)
-}
-
-// A constant.
-#[tactic(auto, unfolding(crate::specs::Walking::checked, crate::specs::Walking::step))]
-fn quote(walk: &mut Walk, kernel: &Kernel, constant: Constant)
-    ensures { walk.new ≡ fold (step kernel.now) walk.old (constant_steps constant) }
-{
-    match constant {
-        Constant::Integer(_) => {}
-        Constant::Boolean(_) => {}
-        Constant::Char(_) => {}
-        Constant::Unit => {}
-        Constant::NullAddress => {}
-        Constant::Quoted(literal) => {
-            let right = (literal as usize) < kernel.literals.len();
-            check(walk, right)
-        }
-    }
-}
-
-// A sequence of so many parts.
-#[tactic(auto, unfolding(crate::specs::Walking::checked, crate::specs::Walking::step))]
-fn begin(walk: &mut Walk, kernel: &Kernel, parts: usize)
-    ensures { walk.new ≡ step kernel.now walk.old (Passes (Sequence parts)) }
-{
-    check(walk, parts > 0)
-}
-
-// A call that takes the place of its procedure, in tail position or not.
-#[tactic(auto, unfolding(crate::specs::Walking::checked, crate::specs::Walking::step))]
-fn replace(walk: &mut Walk, kernel: &Kernel, tail: bool)
-    ensures { walk.new ≡ step kernel.now walk.old (Passes (Replaces tail)) }
-{
-    check(walk, tail)
-}
-
-// A primitive with so many operands.
-#[tactic(auto, unfolding(crate::specs::Walking::checked, crate::specs::Walking::step))]
-fn perform(walk: &mut Walk, kernel: &Kernel, operation: Operation, operands: usize)
-    ensures { walk.new ≡ step kernel.now walk.old (Passes (Performs operation operands)) }
-{
-    let right = is_known(kernel, operation) && operands == operands_of(kernel, operation);
-    check(walk, right)
 }
 
 /// An expression, and what stands in it.
@@ -294,9 +66,7 @@ fn walk_kind(
         ExprKind::Global(global) => name_global(walk, kernel, *global),
         ExprKind::Lambda(lambda) => walk_lambda(walk, kernel, *lambda, left)?,
         ExprKind::If(test, yes, no) => {
-            walk_expr(walk, kernel, test.get(), false, left)?;
-            walk_expr(walk, kernel, yes.get(), tail, left)?;
-            walk_expr(walk, kernel, no.get(), tail, left)?;
+            walk_choice(walk, kernel, test.get(), yes.get(), no.get(), tail, left)?;
         }
         ExprKind::Let(local, value, body) => {
             walk_let(walk, kernel, *local, value.get(), body.get(), tail, left)?;
@@ -325,6 +95,24 @@ fn walk_kind(
         }
     }
     Ok(())
+}
+
+// A test, and the expressions for true and for false, which stand in tail position where the choice does.
+#[cycle(walking)]
+fn walk_choice(
+    walk: &mut Walk,
+    kernel: &Kernel,
+    test: &Expr,
+    yes: &Expr,
+    no: &Expr,
+    tail: bool,
+    left: u32,
+) -> Result<(), NoMemory>
+    ensures { OnOk result (walk.new ≡ fold (step kernel.now) walk.old (if_steps (steps kernel.now left) tail test.now yes.now no.now)) }
+{
+    walk_expr(walk, kernel, test, false, left)?;
+    walk_expr(walk, kernel, yes, tail, left)?;
+    walk_expr(walk, kernel, no, tail, left)
 }
 
 // The value of a local, and the region of the local.

@@ -1,7 +1,6 @@
 use Rattle.std.proofs.Common.{◌≡◌, ◌-◌, sym, ap, subst, ◌∙◌}
 use Rattle.std.specs.Prelude.{OnOk, slice_get}
 use Rattle.std.specs.List.{fold}
-use Rattle.std.proofs.lemmas.List.Sums.{fold-append}
 use Rattle.ps_kernel.specs.declared.expr.Expr.{out-Expr}
 use Rattle.ps_kernel.specs.declared.validity.walk.Walk.{Walk}
 use Rattle.ps_kernel.specs.Walking.{step}
@@ -31,8 +30,8 @@ pub walk_kind-returns-in_ok-walk_lambda-in-Lambda :
     goal.walk_kind-returns-in_ok-walk_lambda-in-Lambda
 walk_kind-returns-in_ok-walk_lambda-in-Lambda t c = rw (c.in-Lambda.is, of_lambda) (c.in_ok-walk_lambda-in-Lambda.ensures)
 
-pub walk_kind-returns-in_ok-walk_expr-in-If-3 : goal.walk_kind-returns-in_ok-walk_expr-in-If-3
-walk_kind-returns-in_ok-walk_expr-in-If-3 t c = rw (c.in-If.is, of_if) (simp fold-append (cc (c.get.ensures, c.get-in-If.ensures, c.get-in-If-2.ensures, c.in_ok-walk_expr-in-If.ensures, c.in_ok-walk_expr-in-If-2.ensures, c.in_ok-walk_expr-in-If-3.ensures)))
+pub walk_kind-returns-in_ok-walk_choice-in-If : goal.walk_kind-returns-in_ok-walk_choice-in-If
+walk_kind-returns-in_ok-walk_choice-in-If t c = rw (c.in-If.is, of_if) (cc (c.get.ensures, c.get-in-If.ensures, c.get-in-If-2.ensures, c.in_ok-walk_choice-in-If.ensures))
 
 pub walk_kind-returns-in_ok-walk_let-in-Let : goal.walk_kind-returns-in_ok-walk_let-in-Let
 walk_kind-returns-in_ok-walk_let-in-Let t c = rw (c.in-Let.is, of_let) (cc (c.get-in-Let.ensures, c.get-in-Let-2.ensures, c.in_ok-walk_let-in-Let.ensures))

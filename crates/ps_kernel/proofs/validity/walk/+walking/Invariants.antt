@@ -10,6 +10,9 @@ decreases-walk_expr l = 8 * l.left
 abbrev pub decreases-walk_kind : goal.decreases-walk_kind
 decreases-walk_kind l = 8 * l.left + 4
 
+abbrev pub decreases-walk_choice : goal.decreases-walk_choice
+decreases-walk_choice l = 8 * l.left + 3
+
 abbrev pub decreases-walk_let : goal.decreases-walk_let
 decreases-walk_let l = 8 * l.left + 3
 
