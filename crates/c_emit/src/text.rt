@@ -171,6 +171,7 @@ fn put_call<O: Sink>(
     put(out, so_far, b");")
 }
 
+#[tactic(auto, using(ps_base::proofs::Writing::adds_then), unfolding(c_ast::specs::Text::statement_text))]
 fn put_if_goto<O: Sink>(out: &mut O, so_far: Written, atom: Atom, label: u32) -> Written
     ensures { Adds (O.shows out.old) so_far (O.shows out.new) result (statement_text (statements.IfGoto atom label)) }
 {
@@ -181,6 +182,7 @@ fn put_if_goto<O: Sink>(out: &mut O, so_far: Written, atom: Atom, label: u32) ->
     put(out, so_far, b";")
 }
 
+#[tactic(auto, using(ps_base::proofs::Writing::adds_then), unfolding(c_ast::specs::Text::statement_text))]
 fn put_goto<O: Sink>(out: &mut O, so_far: Written, label: u32) -> Written
     ensures { Adds (O.shows out.old) so_far (O.shows out.new) result (statement_text (statements.Goto label)) }
 {
@@ -189,6 +191,7 @@ fn put_goto<O: Sink>(out: &mut O, so_far: Written, label: u32) -> Written
     put(out, so_far, b";")
 }
 
+#[tactic(auto, using(ps_base::proofs::Writing::adds_then), unfolding(c_ast::specs::Text::statement_text))]
 fn put_label<O: Sink>(out: &mut O, so_far: Written, label: u32) -> Written
     ensures { Adds (O.shows out.old) so_far (O.shows out.new) result (statement_text (statements.Label label)) }
 {
@@ -197,6 +200,7 @@ fn put_label<O: Sink>(out: &mut O, so_far: Written, label: u32) -> Written
     put(out, so_far, b":;")
 }
 
+#[tactic(auto, using(ps_base::proofs::Writing::adds_then), unfolding(c_ast::specs::Text::statement_text))]
 fn put_return<O: Sink>(out: &mut O, so_far: Written, atom: Atom) -> Written
     ensures { Adds (O.shows out.old) so_far (O.shows out.new) result (statement_text (statements.Return atom)) }
 {
