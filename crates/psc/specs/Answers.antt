@@ -81,30 +81,13 @@ pub record IsNoMemory (i i' : SourceState) (o o' : SinkState) : Type 0 where
 -- The table of answers to right words. No other fault comes.
 abbrev pub Says : Answer → SourceState → SourceState → SinkState → SinkState → Type 0
 Says answers.Done i i' o o' = IsDone i i' o o'
-Says answers.NoMemory i i' o o' = IsNoMemory i i' o o'
 Says (answers.Refused faults.Source) i i' o o' = IsSourceFault i i' o o'
 Says (answers.Refused faults.Sink) i i' o o' = IsSinkFault i i' o o'
 Says (answers.Refused (faults.TooLong file)) i i' o o' = IsTooLong file i i' o o'
-Says (answers.Refused (faults.NotBuilt place)) i i' o o' = IsNotBuilt place i i' o o'
-Says (answers.Refused (faults.Usage word)) i i' o o' = ⊥
-Says (answers.Refused (faults.Library k)) i i' o o' = ⊥
 Says (answers.Refused (faults.Syntax kind place)) i i' o o' = IsSyntaxFault kind place i i' o o'
-Says (answers.Refused (faults.Module kind place)) i i' o o' = ⊥
-Says (answers.Refused (faults.Form kind place)) i i' o o' = ⊥
-Says (answers.Refused (faults.ExpansionSpent n)) i i' o o' = ⊥
-Says (answers.Refused (faults.CoreSpent n)) i i' o o' = ⊥
-Says (answers.Refused (faults.StaticWrong place)) i i' o o' = ⊥
-Says (answers.Refused (faults.StaticUndefined op place)) i i' o o' = ⊥
-Says (answers.Refused (faults.StaticRunOnly place)) i i' o o' = ⊥
-Says (answers.Refused (faults.BudgetSpent n)) i i' o o' = ⊥
-Says (answers.Refused (faults.CellsSpent n)) i i' o o' = ⊥
-Says (answers.Refused (faults.Survives kind place)) i i' o o' = ⊥
-Says (answers.Refused (faults.TypeFault structure name place)) i i' o o' = ⊥
-Says (answers.Refused (faults.Unresolved position place)) i i' o o' = ⊥
-Says (answers.Refused (faults.KeysSpent n)) i i' o o' = ⊥
-Says (answers.Refused (faults.InlineSpent place)) i i' o o' = ⊥
-Says (answers.Refused (faults.TooWide n place)) i i' o o' = ⊥
-Says (answers.Refused (faults.CodeSpent n)) i i' o o' = ⊥
+Says (answers.Refused (faults.NotBuilt place)) i i' o o' = IsNotBuilt place i i' o o'
+Says answers.NoMemory i i' o o' = IsNoMemory i i' o o'
+Says (answers.Refused _) i i' o o' = ⊥
 
 -- Words that break the rules are told at once, and then nothing was read or written.
 abbrev pub AnswersBy : Option ℕ → Answer → SourceState → SourceState → SinkState → SinkState → Type 0

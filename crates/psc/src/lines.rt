@@ -11,6 +11,7 @@ use crate::kinds::{
 };
 use ps_base::{Fault, Name, Names, Place, Sink, SinkFault, Written, put, put_number};
 
+#[tactic(auto, using(ps_base::proofs::Writing::adds_then), unfolding(crate::specs::Lines::place_text))]
 fn put_place<O: Sink>(out: &mut O, so_far: Written, place: Place) -> Written
     ensures { Adds (O.shows out.old) so_far (O.shows out.new) result (place_text place) }
 {
@@ -21,6 +22,7 @@ fn put_place<O: Sink>(out: &mut O, so_far: Written, place: Place) -> Written
     put_number(out, so_far, place.column as u64)
 }
 
+#[tactic(auto, using(ps_base::proofs::Writing::adds_then), unfolding(crate::specs::Lines::at_place))]
 fn put_at_place<O: Sink>(out: &mut O, so_far: Written, words: &[u8], place: Place) -> Written
     ensures { Adds (O.shows out.old) so_far (O.shows out.new) result (at_place words.now place) }
 {
@@ -28,6 +30,7 @@ fn put_at_place<O: Sink>(out: &mut O, so_far: Written, words: &[u8], place: Plac
     put_place(out, so_far, place)
 }
 
+#[tactic(auto, using(ps_base::proofs::Writing::adds_then), unfolding(crate::specs::Lines::of_kind))]
 fn put_of_kind<O: Sink>(
     out: &mut O,
     so_far: Written,
@@ -43,6 +46,7 @@ fn put_of_kind<O: Sink>(
     put_place(out, so_far, place)
 }
 
+#[tactic(auto, using(ps_base::proofs::Writing::adds_then), unfolding(crate::specs::Lines::with_number))]
 fn put_with_number<O: Sink>(out: &mut O, so_far: Written, words: &[u8], number: u64) -> Written
     ensures { Adds (O.shows out.old) so_far (O.shows out.new) result (with_number words.now number) }
 {
@@ -60,6 +64,7 @@ fn put_name<O: Sink>(out: &mut O, so_far: Written, names: &Names, name: Name) ->
     }
 }
 
+#[tactic(auto, using(ps_base::proofs::Writing::adds_then), unfolding(crate::specs::Lines::definition_text))]
 fn put_definition<O: Sink>(
     out: &mut O,
     so_far: Written,
@@ -88,6 +93,7 @@ fn put_width<O: Sink>(out: &mut O, so_far: Written, width: u64, place: Place) ->
 }
 
 // The number and the words of a fault.
+#[tactic(auto, unfolding(crate::specs::Lines::fault_text))]
 fn put_fault<O: Sink>(out: &mut O, so_far: Written, names: &Names, fault: Fault) -> Written
     ensures { Adds (O.shows out.old) so_far (O.shows out.new) result (fault_text names.now fault) }
 {

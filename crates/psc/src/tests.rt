@@ -7,7 +7,7 @@ mod programs;
 mod runs;
 mod texts;
 
-use crate::answer::Answer;
+use crate::answer::Answer::{self, Done, Refused};
 use crate::run::run_psc;
 use ps_base::{Fault, Items, Place, SyntaxKind};
 use ps_edge::{MemorySink, MemorySource};
@@ -16,7 +16,7 @@ use std::test::Fail;
 
 // The refusal of a text that is no program, at a place of the text.
 fn not_built(line: u32, column: u32) -> Answer {
-    Answer::Refused(Fault::NotBuilt(Place {
+    Refused(Fault::NotBuilt(Place {
         file: 0,
         line,
         column,
@@ -25,7 +25,7 @@ fn not_built(line: u32, column: u32) -> Answer {
 
 // The refusal of a text that is not that of data.
 fn syntax(kind: SyntaxKind, line: u32, column: u32) -> Answer {
-    Answer::Refused(Fault::Syntax(
+    Refused(Fault::Syntax(
         kind,
         Place {
             file: 0,
@@ -56,19 +56,13 @@ fn strings(alloc: Global, words: &[&str]) -> Result<Vec<String>, Fail> {
     Ok(strings)
 }
 
-// What `compile` answers to a text, what it writes, and what it tells of it.
-fn told(alloc: Global, text: &[u8]) -> Result<(Answer, MemorySink, MemorySink), Fail> {
+// What `compile` answers to a text, and what it writes.
+fn compiled(alloc: Global, text: &[u8]) -> Result<(Answer, MemorySink), Fail> {
     let words = strings(alloc, &["compile"])?;
     let mut input = source(alloc, text, 4096, &[])?;
     let mut output = sink(alloc, 1_000_000, 4096, &[])?;
     let mut errors = sink(alloc, 1000, 4096, &[])?;
     let answer = run_psc(alloc, &words, &mut input, &mut output, &mut errors);
-    Ok((answer, output, errors))
-}
-
-// What `compile` answers to a text, and what it writes.
-fn compiled(alloc: Global, text: &[u8]) -> Result<(Answer, MemorySink), Fail> {
-    let (answer, output, _) = told(alloc, text)?;
     Ok((answer, output))
 }
 
@@ -76,43 +70,31 @@ fn compiled(alloc: Global, text: &[u8]) -> Result<(Answer, MemorySink), Fail> {
 fn refuses_words_that_break_the_rules(rt: HostRuntime) -> Result<(), Fail> {
     let alloc = rt.alloc();
     let cases: &[(&[&str], Answer, &[u8])] = &[
-        (&[], Answer::Refused(Fault::Usage(0)), b"psc: 1 usage 0\n"),
-        (
-            &["check"],
-            Answer::Refused(Fault::Usage(0)),
-            b"psc: 1 usage 0\n",
-        ),
-        (
-            &["Compile"],
-            Answer::Refused(Fault::Usage(0)),
-            b"psc: 1 usage 0\n",
-        ),
-        (
-            &["compile "],
-            Answer::Refused(Fault::Usage(0)),
-            b"psc: 1 usage 0\n",
-        ),
+        (&[], Refused(Fault::Usage(0)), b"psc: 1 usage 0\n"),
+        (&["check"], Refused(Fault::Usage(0)), b"psc: 1 usage 0\n"),
+        (&["Compile"], Refused(Fault::Usage(0)), b"psc: 1 usage 0\n"),
+        (&["compile "], Refused(Fault::Usage(0)), b"psc: 1 usage 0\n"),
         (
             &["--help", "compile"],
-            Answer::Refused(Fault::Usage(0)),
+            Refused(Fault::Usage(0)),
             b"psc: 1 usage 0\n",
         ),
         (
             &["compile", ""],
-            Answer::Refused(Fault::Usage(1)),
+            Refused(Fault::Usage(1)),
             b"psc: 1 usage 1\n",
         ),
         (
             &["compile", "compile"],
-            Answer::Refused(Fault::Usage(1)),
+            Refused(Fault::Usage(1)),
             b"psc: 1 usage 1\n",
         ),
         (
             &["compile", "x", "y"],
-            Answer::Refused(Fault::Usage(1)),
+            Refused(Fault::Usage(1)),
             b"psc: 1 usage 1\n",
         ),
-        (&["compile"], Answer::Done, b""),
+        (&["compile"], Done, b""),
     ];
     for (words, wanted, line) in cases {
         let words = strings(alloc, words)?;
@@ -122,7 +104,7 @@ fn refuses_words_that_break_the_rules(rt: HostRuntime) -> Result<(), Fail> {
         let answer = run_psc(alloc, &words, &mut input, &mut output, &mut errors);
         assert_eq!(rt; answer, *wanted);
         assert_eq!(rt; errors.bytes(), *line);
-        assert_eq!(rt; output.bytes().is_empty(), answer != Answer::Done);
+        assert_eq!(rt; output.bytes().is_empty(), answer != Done);
     }
     Ok(())
 }
@@ -147,7 +129,7 @@ fn says_what_failed(rt: HostRuntime) -> Result<(), Fail> {
             &[0],
             &[],
             &[],
-            Answer::Refused(Fault::Source),
+            Refused(Fault::Source),
             0,
             b"psc: 2 source\n",
         ),
@@ -155,44 +137,16 @@ fn says_what_failed(rt: HostRuntime) -> Result<(), Fail> {
             &[4],
             &[],
             &[],
-            Answer::Refused(Fault::Source),
+            Refused(Fault::Source),
             0,
             b"psc: 2 source\n",
         ),
-        (&[5], &[], &[], Answer::Done, 2945, b""),
-        (
-            &[],
-            &[0],
-            &[],
-            Answer::Refused(Fault::Sink),
-            0,
-            b"psc: 3 sink\n",
-        ),
-        (
-            &[],
-            &[2],
-            &[],
-            Answer::Refused(Fault::Sink),
-            200,
-            b"psc: 3 sink\n",
-        ),
-        (
-            &[],
-            &[2],
-            &[0],
-            Answer::Refused(Fault::Sink),
-            200,
-            b"psc: 3 sink\n",
-        ),
-        (
-            &[],
-            &[2],
-            &[1],
-            Answer::Refused(Fault::Sink),
-            200,
-            b"psc: 3 sink\n",
-        ),
-        (&[], &[], &[0], Answer::Done, 2945, b""),
+        (&[5], &[], &[], Done, 2945, b""),
+        (&[], &[0], &[], Refused(Fault::Sink), 0, b"psc: 3 sink\n"),
+        (&[], &[2], &[], Refused(Fault::Sink), 200, b"psc: 3 sink\n"),
+        (&[], &[2], &[0], Refused(Fault::Sink), 200, b"psc: 3 sink\n"),
+        (&[], &[2], &[1], Refused(Fault::Sink), 200, b"psc: 3 sink\n"),
+        (&[], &[], &[0], Done, 2945, b""),
     ];
     let words = strings(alloc, &["compile"])?;
     let (_, whole) = compiled(alloc, b"(define (main) 42)")?;
@@ -218,7 +172,7 @@ fn takes_texts_up_to_the_limit(rt: HostRuntime) -> Result<(), Fail> {
     let alloc = rt.alloc();
     let cases: &[(usize, Answer)] = &[
         (4_194_304, not_built(1, 1)),
-        (4_194_305, Answer::Refused(Fault::TooLong(0))),
+        (4_194_305, Refused(Fault::TooLong(0))),
     ];
     for (spaces, wanted) in cases {
         let text = vec![in alloc; b' '; *spaces]?;

@@ -1,11 +1,11 @@
 //! The lines of faults.
 
 use super::{not_built, sink};
-use crate::answer::{Answer, status_of};
+use crate::answer::Answer::{self, Done, NoMemory, Refused};
+use crate::answer::status_of;
 use crate::lines::write_fault;
-use ps_base::{
-    Fault, FormKind, ModuleKind, Name, Names, Op, Place, Position, SurviveKind, SyntaxKind,
-};
+use ps_base::Fault::*;
+use ps_base::{FormKind, ModuleKind, Name, Names, Op, Place, Position, SurviveKind, SyntaxKind};
 use std::test::Fail;
 
 #[test]
@@ -22,103 +22,91 @@ fn prints_the_line_of_each_fault(rt: HostRuntime) -> Result<(), Fail> {
     assert_eq!(rt; main, Name(1));
     let user = Name(0);
     let cases: &[(Answer, u8, &[u8])] = &[
-        (Answer::Done, 0, b""),
-        (Answer::NoMemory, 20, b"psc: 20 no-memory\n"),
+        (Done, 0, b""),
+        (NoMemory, 20, b"psc: 20 no-memory\n"),
         (
-            Answer::Refused(Fault::Usage(18446744073709551615)),
+            Refused(Usage(18446744073709551615)),
             1,
             b"psc: 1 usage 18446744073709551615\n",
         ),
-        (Answer::Refused(Fault::Source), 2, b"psc: 2 source\n"),
-        (Answer::Refused(Fault::Sink), 3, b"psc: 3 sink\n"),
-        (Answer::Refused(Fault::Library(1)), 4, b"psc: 4 library 1\n"),
+        (Refused(Source), 2, b"psc: 2 source\n"),
+        (Refused(Sink), 3, b"psc: 3 sink\n"),
+        (Refused(Library(1)), 4, b"psc: 4 library 1\n"),
+        (Refused(TooLong(0)), 5, b"psc: 5 too-long 0\n"),
         (
-            Answer::Refused(Fault::TooLong(0)),
-            5,
-            b"psc: 5 too-long 0\n",
-        ),
-        (
-            Answer::Refused(Fault::Syntax(SyntaxKind::FloatLiteral, at)),
+            Refused(Syntax(SyntaxKind::FloatLiteral, at)),
             6,
             b"psc: 6 syntax float-literal 2:3:45\n",
         ),
         (
-            Answer::Refused(Fault::Module(ModuleKind::NoMain, at)),
+            Refused(Module(ModuleKind::NoMain, at)),
             7,
             b"psc: 7 module no-main 2:3:45\n",
         ),
         (
-            Answer::Refused(Fault::Form(FormKind::LetrecValue, at)),
+            Refused(Form(FormKind::LetrecValue, at)),
             8,
             b"psc: 8 form letrec-value 2:3:45\n",
         ),
         (
-            Answer::Refused(Fault::ExpansionSpent(100000)),
+            Refused(ExpansionSpent(100000)),
             9,
             b"psc: 9 expansion-spent 100000\n",
         ),
         (
-            Answer::Refused(Fault::CoreSpent(1000000)),
+            Refused(CoreSpent(1000000)),
             9,
             b"psc: 9 core-spent 1000000\n",
         ),
         (
-            Answer::Refused(Fault::StaticWrong(at)),
+            Refused(StaticWrong(at)),
             10,
             b"psc: 10 static wrong 2:3:45\n",
         ),
         (
-            Answer::Refused(Fault::StaticUndefined(Op::Division, at)),
+            Refused(StaticUndefined(Op::Division, at)),
             10,
             b"psc: 10 static undefined division 2:3:45\n",
         ),
         (
-            Answer::Refused(Fault::StaticRunOnly(at)),
+            Refused(StaticRunOnly(at)),
             10,
             b"psc: 10 static run-only 2:3:45\n",
         ),
+        (Refused(BudgetSpent(5)), 11, b"psc: 11 budget-spent 5\n"),
         (
-            Answer::Refused(Fault::BudgetSpent(5)),
-            11,
-            b"psc: 11 budget-spent 5\n",
-        ),
-        (
-            Answer::Refused(Fault::CellsSpent(16000000)),
+            Refused(CellsSpent(16000000)),
             11,
             b"psc: 11 cells-spent 16000000\n",
         ),
         (
-            Answer::Refused(Fault::Survives(SurviveKind::CompileOnly, at)),
+            Refused(Survives(SurviveKind::CompileOnly, at)),
             12,
             b"psc: 12 survives compile-only 2:3:45\n",
         ),
         (
-            Answer::Refused(Fault::TypeFault(user, main, at)),
+            Refused(TypeFault(user, main, at)),
             13,
             b"psc: 13 type user/main 2:3:45\n",
         ),
         (
-            Answer::Refused(Fault::Unresolved(Position::Branch, at)),
+            Refused(Unresolved(Position::Branch, at)),
             14,
             b"psc: 14 unresolved branch 2:3:45\n",
         ),
+        (Refused(KeysSpent(4096)), 15, b"psc: 15 keys-spent 4096\n"),
         (
-            Answer::Refused(Fault::KeysSpent(4096)),
-            15,
-            b"psc: 15 keys-spent 4096\n",
-        ),
-        (
-            Answer::Refused(Fault::InlineSpent(at)),
+            Refused(InlineSpent(at)),
             15,
             b"psc: 15 inline-spent 2:3:45\n",
         ),
         (
-            Answer::Refused(Fault::TooWide(128, at)),
+            Refused(TooWide(128, at)),
             15,
             b"psc: 15 too-wide 128 2:3:45\n",
         ),
         (
-            Answer::Refused(Fault::CodeSpent(2000000)),
+            Refused(CodeSpent(2000000)),
             16,
             b"psc: 16 code-spent 2000000\n",
         ),

@@ -2,10 +2,14 @@
 
 ghost use Rattle.std.specs.Prelude.{◌<◌};
 
-use super::{compiled, not_built, syntax, told};
+use super::texts::FOOT;
+use super::{compiled, not_built, syntax};
 use crate::answer::Answer;
 use itoa::Buffer;
-use ps_base::SyntaxKind;
+use ps_base::SyntaxKind::{
+    self, BadCharacter, BadDot, BadEscape, BadToken, FloatLiteral, StrayClose, TooDeep, Unclosed,
+    WideLiteral,
+};
 use std::alloc::Global;
 use std::process::Abort;
 use std::test::Fail;
@@ -41,495 +45,296 @@ fn compiles_200_levels_alone(rt: HostRuntime) -> Result<(), Fail> {
         let text = nested(alloc, begin, *deepest, end)?;
         assert_eq!(rt; compiled(alloc, &text)?.0, Answer::Done);
         let text = nested(alloc, begin, *deepest + 1, end)?;
-        assert_eq!(rt;
-            compiled(alloc, &text)?.0,
-            syntax(SyntaxKind::TooDeep, 1, *column)
-        );
+        assert_eq!(rt; compiled(alloc, &text)?.0, syntax(TooDeep, 1, *column));
     }
     Ok(())
 }
 
-// A text, and the line that is told of it; none where it is compiled.
-type Row = (&'static [u8], &'static [u8]);
-
-// Texts of one procedure.
-const BODIES: &[Row] = &[
-    (b"(define (main) 42)", b""),
-    (b"(define (main) (+ 40 2))", b""),
-    (b"(define (main) (+ (+ 1 (+ 2 3)) (+ (+ 4 5) 6)))", b""),
-    (b"(define (main) 9223372036854775807)", b""),
-    (
-        b"(define (main) 9223372036854775808)",
-        b"psc: 6 syntax wide-literal 0:1:16\n",
-    ),
-    (b"(define (main) -9223372036854775808)", b""),
-    (
-        b"(define (main) -9223372036854775809)",
-        b"psc: 6 syntax wide-literal 0:1:16\n",
-    ),
-    (b"(define (main) +7)", b""),
-    (b"(define (main) -0)", b""),
-    (b"(define (main) 007)", b""),
-    (b"(DEFINE (Main) 1)", b""),
-    (b"\t(\x0cdefine\r\n( main ) (+\n1\t2 ) ) \n", b""),
-    (b"(define(main)(+ 1 2))", b""),
-    (b"(define (main)(+(+ 1 2)3))", b""),
-    (b"(define (main) (+ 1 2)", b"psc: 6 syntax unclosed 0:1:1\n"),
-    (
-        b"(define (main) (+ 1 2)))",
-        b"psc: 6 syntax stray-close 0:1:24\n",
-    ),
-    (b"(define (main) (+ 1 2 3))", b"psc: 17 not-built 0:1:16\n"),
-    (b"(define (main) (+ 1))", b"psc: 17 not-built 0:1:16\n"),
-    (b"(define (main) (+))", b"psc: 17 not-built 0:1:16\n"),
-    (b"(define (main) (- 1 2))", b""),
-    (b"(define (main) (* 1 2))", b""),
-    (b"(define (main) (* 4294967296 4294967296))", b""),
-    (b"(define (main) (if (< 2 1) 7 (+ 40 2)))", b""),
-    (
-        b"(define (main) (IF(<(- 2)1)7 8))",
-        b"psc: 17 not-built 0:1:21\n",
-    ),
-    (b"(define (main) (IF(<(- 2 0)1)7 8))", b""),
-    (b"(define (main) (write-byte 65) 0)", b""),
-    (
-        b"(define (main) (Write-Byte (if (< 1 2) 3 4))(write-byte 256) -1)",
-        b"",
-    ),
-    (
-        b"(define (main) (write-byte 65))",
-        b"psc: 17 not-built 0:1:16\n",
-    ),
-    (
-        b"(define (main) 0 (write-byte 65))",
-        b"psc: 17 not-built 0:1:16\n",
-    ),
-    (
-        b"(define (main) (write-byte 65 66) 0)",
-        b"psc: 17 not-built 0:1:16\n",
-    ),
-    (
-        b"(define (main) (write-byte) 0)",
-        b"psc: 17 not-built 0:1:16\n",
-    ),
-    (
-        b"(define (main) (+ 1 (write-byte 65)))",
-        b"psc: 17 not-built 0:1:21\n",
-    ),
-    (
-        b"(define (main) (write-bytes 65) 0)",
-        b"psc: 17 not-built 0:1:16\n",
-    ),
-    (
-        b"(define (main) write-byte 65 0)",
-        b"psc: 17 not-built 0:1:16\n",
-    ),
-    (
-        b"(define (main) (if (< 1 2) 3))",
-        b"psc: 17 not-built 0:1:16\n",
-    ),
-    (
-        b"(define (main) (if (< 1 2) 3 4 5))",
-        b"psc: 17 not-built 0:1:16\n",
-    ),
-    (
-        b"(define (main) (if (< 1) 3 4))",
-        b"psc: 17 not-built 0:1:20\n",
-    ),
-    (
-        b"(define (main) (if (< 1 2 3) 4 5))",
-        b"psc: 17 not-built 0:1:20\n",
-    ),
-    (
-        b"(define (main) (if (> 1 2) 3 4))",
-        b"psc: 17 not-built 0:1:20\n",
-    ),
-    (b"(define (main) (if 1 2 3))", b"psc: 17 not-built 0:1:20\n"),
-    (
-        b"(define (main) (if < 1 2 3 4))",
-        b"psc: 17 not-built 0:1:16\n",
-    ),
-    (b"(define (main) (< 1 2))", b"psc: 17 not-built 0:1:16\n"),
-    (b"(define (main) (/ 1 2))", b"psc: 17 not-built 0:1:17\n"),
-    (b"(define (main) (- 1))", b"psc: 17 not-built 0:1:16\n"),
-    (b"(define (main) (* 1 2 3))", b"psc: 17 not-built 0:1:16\n"),
-    (b"(define (main) (1 + 2))", b"psc: 17 not-built 0:1:16\n"),
-    (b"(define (main) +)", b"psc: 17 not-built 0:1:16\n"),
-    (b"(define (main) -)", b"psc: 17 not-built 0:1:16\n"),
-    (
-        b"(define (main) 1.5)",
-        b"psc: 6 syntax float-literal 0:1:16\n",
-    ),
-    (b"(define (main) 1 2)", b"psc: 17 not-built 0:1:16\n"),
-    (b"(define (main) 1) 2", b"psc: 17 not-built 0:1:19\n"),
-    (b"(define (main) 1) ; a note", b""),
-    (b"(define (main) \"1\")", b"psc: 17 not-built 0:1:16\n"),
-    (b"(define (main) '1)", b"psc: 17 not-built 0:1:16\n"),
-    (b"(define (mains) 1)", b"psc: 17 not-built 0:1:1\n"),
-    (b"(define main 1)", b"psc: 17 not-built 0:1:9\n"),
-    (b"(define (main))", b"psc: 17 not-built 0:1:1\n"),
-    (b"(define)", b"psc: 17 not-built 0:1:1\n"),
-    (b"define (main) 1", b"psc: 17 not-built 0:1:1\n"),
-    (b"(define (main) \xff)", b"psc: 6 syntax bad-token 0:1:16\n"),
-    (b")", b"psc: 6 syntax stray-close 0:1:1\n"),
-    (b"", b"psc: 17 not-built 0:1:1\n"),
-    (b" \n", b"psc: 17 not-built 0:1:1\n"),
-    (b"1", b"psc: 17 not-built 0:1:1\n"),
-    (b"()", b"psc: 17 not-built 0:1:1\n"),
-    (b"(write-byte 1)", b"psc: 17 not-built 0:1:1\n"),
+// Texts that are programs.
+const PROGRAMS: &[&[u8]] = &[
+    b"(define (main) 42)",
+    b"(define (main) (+ 40 2))",
+    b"(define (main) (+ (+ 1 (+ 2 3)) (+ (+ 4 5) 6)))",
+    b"(define (main) 9223372036854775807)",
+    b"(define (main) -9223372036854775808)",
+    b"(define (main) +7)",
+    b"(define (main) -0)",
+    b"(define (main) 007)",
+    b"(DEFINE (Main) 1)",
+    b"\t(\x0cdefine\r\n( main ) (+\n1\t2 ) ) \n",
+    b"(define(main)(+ 1 2))",
+    b"(define (main)(+(+ 1 2)3))",
+    b"(define (main) (- 1 2))",
+    b"(define (main) (* 1 2))",
+    b"(define (main) (* 4294967296 4294967296))",
+    b"(define (main) (if (< 2 1) 7 (+ 40 2)))",
+    b"(define (main) (IF(<(- 2 0)1)7 8))",
+    b"(define (main) (write-byte 65) 0)",
+    b"(define (main) (Write-Byte (if (< 1 2) 3 4))(write-byte 256) -1)",
+    b"(define (main) 1) ; a note",
+    b"(define (f) 1) (define (main) (f))",
+    b"(define (main) (f)) (define (f) 1)",
+    b"(define (f x) x) (define (main) (f 1))",
+    b"(define (f x y) (- x y)) (define (main) (f 1 (f 2 3)))",
+    b"(DEFINE (F X) x) (define (Main) (f 1))",
+    b"(define (f f) f) (define (main) (f 1))",
+    b"(define (f main) main) (define (main) (f 1))",
+    b"(define (main) (main))",
+    b"(define (p n) (if (= n 0) 0 (q (- n 1)))) (define (q n) (if (= n 0) 1 (p (- n 1)))) (define (main) (p (read-byte)))",
+    b"(define (f x) (write-byte x) (write-byte (+ x 1)) (f x)) (define (main) (f 1))",
+    b"(define (main) (read-byte))",
+    b"(define (main) (write-byte (read-byte)) 0)",
+    b"(define (main) (if (= 1 2) 3 4))",
+    b"(define (f x) 1) (define (g x) 1) (define (main) 0)",
+    b"(define (->) 1) (define (main) (->))",
+    b"(define (->x1.+@) 1) (define (main) (->X1.+@))",
+    b"(define (...) 1) (define (main) (...))",
+    b"(define (!$%&*/:<=>?^_~a0+-.@) 1) (define (main) 0)",
+    b"(define (<= x /) (** x /)) (define (** x y) x) (define (main) (<= 1 2))",
+    b"(define (main) #x2A)",
+    b"(define (main) #b-101010)",
+    b"(define (main) #O52)",
+    b"(define (main) #d+42)",
+    b"(define (main) ; the answer\n  42)",
+    b"(define (main) 42) ; \"no string (",
+    b"(define (main) (+ 1 . (2)))",
+    b"(define (main . ()) 1)",
+    b"(define (quote x) x) (define (main) '7)",
 ];
 
-// Texts of several procedures.
-const PROCEDURES: &[Row] = &[
-    (b"(define (f) 1) (define (main) (f))", b""),
-    (b"(define (main) (f)) (define (f) 1)", b""),
-    (b"(define (f x) x) (define (main) (f 1))", b""),
-    (
-        b"(define (f x y) (- x y)) (define (main) (f 1 (f 2 3)))",
-        b"",
-    ),
-    (b"(DEFINE (F X) x) (define (Main) (f 1))", b""),
-    (b"(define (f f) f) (define (main) (f 1))", b""),
-    (b"(define (f main) main) (define (main) (f 1))", b""),
-    (b"(define (main) (main))", b""),
-    (
-        b"(define (p n) (if (= n 0) 0 (q (- n 1)))) (define (q n) (if (= n 0) 1 (p (- n 1)))) (define (main) (p (read-byte)))",
-        b"",
-    ),
-    (
-        b"(define (f x) (write-byte x) (write-byte (+ x 1)) (f x)) (define (main) (f 1))",
-        b"",
-    ),
-    (b"(define (main) (read-byte))", b""),
-    (b"(define (main) (write-byte (read-byte)) 0)", b""),
-    (b"(define (main) (if (= 1 2) 3 4))", b""),
-    (
-        b"(define (main) (read-byte 1))",
-        b"psc: 17 not-built 0:1:16\n",
-    ),
-    (b"(define (main) read-byte)", b"psc: 17 not-built 0:1:16\n"),
-    (b"(define (main) (= 1 2))", b"psc: 17 not-built 0:1:16\n"),
-    (
-        b"(define (main) (if (= 1) 3 4))",
-        b"psc: 17 not-built 0:1:20\n",
-    ),
+// A text, and the line and the column of its first fault.
+type Fault = (&'static [u8], u32, u32);
+
+// Data that have not the shape expected in their place.
+const SHAPES: &[Fault] = &[
+    (b"(define (main) (+ 1 2 3))", 1, 16),
+    (b"(define (main) (+ 1))", 1, 16),
+    (b"(define (main) (+))", 1, 16),
+    (b"(define (main) (IF(<(- 2)1)7 8))", 1, 21),
+    (b"(define (main) (write-byte 65))", 1, 16),
+    (b"(define (main) 0 (write-byte 65))", 1, 16),
+    (b"(define (main) (write-byte 65 66) 0)", 1, 16),
+    (b"(define (main) (write-byte) 0)", 1, 16),
+    (b"(define (main) (+ 1 (write-byte 65)))", 1, 21),
+    (b"(define (main) (write-bytes 65) 0)", 1, 16),
+    (b"(define (main) write-byte 65 0)", 1, 16),
+    (b"(define (main) (if (< 1 2) 3))", 1, 16),
+    (b"(define (main) (if (< 1 2) 3 4 5))", 1, 16),
+    (b"(define (main) (if (< 1) 3 4))", 1, 20),
+    (b"(define (main) (if (< 1 2 3) 4 5))", 1, 20),
+    (b"(define (main) (if (> 1 2) 3 4))", 1, 20),
+    (b"(define (main) (if 1 2 3))", 1, 20),
+    (b"(define (main) (if < 1 2 3 4))", 1, 16),
+    (b"(define (main) (< 1 2))", 1, 16),
+    (b"(define (main) (/ 1 2))", 1, 17),
+    (b"(define (main) (- 1))", 1, 16),
+    (b"(define (main) (* 1 2 3))", 1, 16),
+    (b"(define (main) (1 + 2))", 1, 16),
+    (b"(define (main) +)", 1, 16),
+    (b"(define (main) -)", 1, 16),
+    (b"(define (main) 1 2)", 1, 16),
+    (b"(define (main) 1) 2", 1, 19),
+    (b"(define (main) \"1\")", 1, 16),
+    (b"(define (main) '1)", 1, 16),
+    (b"(define (mains) 1)", 1, 1),
+    (b"(define main 1)", 1, 9),
+    (b"(define (main))", 1, 1),
+    (b"(define)", 1, 1),
+    (b"define (main) 1", 1, 1),
+    (b"", 1, 1),
+    (b" \n", 1, 1),
+    (b"1", 1, 1),
+    (b"()", 1, 1),
+    (b"(write-byte 1)", 1, 1),
+    (b"; nothing", 1, 1),
+    (b"(define x 1)", 1, 9),
+    (b"(define (main) (+ 1 \"two\"))", 1, 21),
+];
+
+// Procedures and names.
+const NAMES: &[Fault] = &[
+    (b"(define (f) 1) (define (f) 2) (define (main) 0)", 1, 25),
+    (b"(define (main) (f 1))", 1, 17),
+    (b"(define (f g) (g)) (define (main) 0)", 1, 16),
+    (b"(define (f x) x) (define (main) (f))", 1, 33),
+    (b"(define (main) (read-byte 1))", 1, 16),
+    (b"(define (main) read-byte)", 1, 16),
+    (b"(define (main) (= 1 2))", 1, 16),
+    (b"(define (main) (if (= 1) 3 4))", 1, 20),
     (
         b"(define (f x) (define (g) 1) x) (define (main) (f 1))",
-        b"psc: 17 not-built 0:1:15\n",
+        1,
+        15,
     ),
-    (b"(define (main) ((main)))", b"psc: 17 not-built 0:1:16\n"),
-    (b"(define (main) ())", b"psc: 17 not-built 0:1:16\n"),
-    (
-        b"(define (f) 1) (define (f) 1) (define (main) 0)",
-        b"psc: 17 not-built 0:1:25\n",
-    ),
-    (
-        b"(define (f) 1) (define (F x) 1) (define (main) 0)",
-        b"psc: 17 not-built 0:1:25\n",
-    ),
-    (
-        b"(define (main) 0) (define (main) 0)",
-        b"psc: 17 not-built 0:1:28\n",
-    ),
-    (
-        b"(define (main) 0) (define (main x) 0)",
-        b"psc: 17 not-built 0:1:28\n",
-    ),
-    (
-        b"(define (f x x) 1) (define (main) 0)",
-        b"psc: 17 not-built 0:1:14\n",
-    ),
-    (
-        b"(define (f x y X) 1) (define (main) 0)",
-        b"psc: 17 not-built 0:1:16\n",
-    ),
-    (b"(define (f x) 1) (define (g x) 1) (define (main) 0)", b""),
-    (b"(define (main) x)", b"psc: 17 not-built 0:1:16\n"),
-    (
-        b"(define (f x) 1) (define (main) x)",
-        b"psc: 17 not-built 0:1:33\n",
-    ),
-    (
-        b"(define (f) 1) (define (main) f)",
-        b"psc: 17 not-built 0:1:31\n",
-    ),
-    (
-        b"(define (f x) y) (define (main) 0)",
-        b"psc: 17 not-built 0:1:15\n",
-    ),
-    (
-        b"(define (f x) (write-byte y) x) (define (main) 0)",
-        b"psc: 17 not-built 0:1:27\n",
-    ),
-    (b"(define (main) (f))", b"psc: 17 not-built 0:1:17\n"),
+    (b"(define (main) ((main)))", 1, 16),
+    (b"(define (main) ())", 1, 16),
+    (b"(define (f) 1) (define (f) 1) (define (main) 0)", 1, 25),
+    (b"(define (f) 1) (define (F x) 1) (define (main) 0)", 1, 25),
+    (b"(define (main) 0) (define (main) 0)", 1, 28),
+    (b"(define (main) 0) (define (main x) 0)", 1, 28),
+    (b"(define (f x x) 1) (define (main) 0)", 1, 14),
+    (b"(define (f x y X) 1) (define (main) 0)", 1, 16),
+    (b"(define (main) x)", 1, 16),
+    (b"(define (f x) 1) (define (main) x)", 1, 33),
+    (b"(define (f) 1) (define (main) f)", 1, 31),
+    (b"(define (f x) y) (define (main) 0)", 1, 15),
+    (b"(define (f x) (write-byte y) x) (define (main) 0)", 1, 27),
+    (b"(define (main) (f))", 1, 17),
     (
         b"(define (f g) (g)) (define (g) 1) (define (main) (f 1))",
-        b"psc: 17 not-built 0:1:16\n",
+        1,
+        16,
     ),
-    (
-        b"(define (f f) (f 1)) (define (main) (f 1))",
-        b"psc: 17 not-built 0:1:16\n",
-    ),
-    (
-        b"(define (f x) (x)) (define (main) 0)",
-        b"psc: 17 not-built 0:1:16\n",
-    ),
-    (
-        b"(define (f) 1) (define (main) (f 1))",
-        b"psc: 17 not-built 0:1:31\n",
-    ),
-    (
-        b"(define (f x) 1) (define (main) (f))",
-        b"psc: 17 not-built 0:1:33\n",
-    ),
-    (
-        b"(define (f x) 1) (define (main) (f 1 2))",
-        b"psc: 17 not-built 0:1:33\n",
-    ),
-    (
-        b"(define (f x y) 1) (define (main) (+ 1 (f 1)))",
-        b"psc: 17 not-built 0:1:40\n",
-    ),
-    (b"(define (main) (main 1))", b"psc: 17 not-built 0:1:16\n"),
-    (b"(define (f) 1)", b"psc: 17 not-built 0:1:1\n"),
-    (b"(define (main x) x)", b"psc: 17 not-built 0:1:1\n"),
-    (
-        b"(define (f) 1) (define (main x) x)",
-        b"psc: 17 not-built 0:1:1\n",
-    ),
-    (b"(define (->) 1) (define (main) (->))", b""),
-    (b"(define (->x1.+@) 1) (define (main) (->X1.+@))", b""),
-    (b"(define (...) 1) (define (main) (...))", b""),
-    (b"(define (!$%&*/:<=>?^_~a0+-.@) 1) (define (main) 0)", b""),
-    (
-        b"(define (<= x /) (** x /)) (define (** x y) x) (define (main) (<= 1 2))",
-        b"",
-    ),
-    (
-        b"(define (..) 1) (define (main) 0)",
-        b"psc: 6 syntax bad-token 0:1:10\n",
-    ),
-    (
-        b"(define (1+) 1) (define (main) 0)",
-        b"psc: 6 syntax bad-token 0:1:10\n",
-    ),
-    (
-        b"(define (-x) 1) (define (main) 0)",
-        b"psc: 6 syntax bad-token 0:1:10\n",
-    ),
-    (
-        b"(define (+x) 1) (define (main) 0)",
-        b"psc: 6 syntax bad-token 0:1:10\n",
-    ),
-    (
-        b"(define (.x) 1) (define (main) 0)",
-        b"psc: 6 syntax bad-token 0:1:10\n",
-    ),
-    (
-        b"(define (a'b) 1) (define (main) 0)",
-        b"psc: 6 syntax bad-token 0:1:10\n",
-    ),
-    (
-        b"(define (a,b) 1) (define (main) 0)",
-        b"psc: 6 syntax bad-token 0:1:10\n",
-    ),
-    (
-        b"(define (a#) 1) (define (main) 0)",
-        b"psc: 6 syntax bad-token 0:1:10\n",
-    ),
-    (
-        b"(define (a|) 1) (define (main) 0)",
-        b"psc: 6 syntax bad-token 0:1:10\n",
-    ),
-    (
-        b"(define (->#) 1) (define (main) 0)",
-        b"psc: 6 syntax bad-token 0:1:10\n",
-    ),
-    (
-        b"(define (f\xc3\xa9) 1) (define (main) 0)",
-        b"psc: 6 syntax bad-token 0:1:10\n",
-    ),
-    (
-        b"(define (5) 1) (define (main) 0)",
-        b"psc: 17 not-built 0:1:9\n",
-    ),
-    (
-        b"(define (f 5) 1) (define (main) 0)",
-        b"psc: 17 not-built 0:1:12\n",
-    ),
-    (
-        b"(define (f (x)) 1) (define (main) 0)",
-        b"psc: 17 not-built 0:1:12\n",
-    ),
-    (
-        b"(define ((f) x) 1) (define (main) 0)",
-        b"psc: 17 not-built 0:1:9\n",
-    ),
-    (
-        b"(define () 1) (define (main) 0)",
-        b"psc: 17 not-built 0:1:9\n",
-    ),
-    (
-        b"(define f 1) (define (main) 0)",
-        b"psc: 17 not-built 0:1:9\n",
-    ),
-    (
-        b"(define (f)) (define (main) 0)",
-        b"psc: 17 not-built 0:1:1\n",
-    ),
-    (
-        b"(define (if) 1) (define (main) 0)",
-        b"psc: 17 not-built 0:1:9\n",
-    ),
-    (
-        b"(define (define) 1) (define (main) 0)",
-        b"psc: 17 not-built 0:1:9\n",
-    ),
-    (
-        b"(define (write-byte x) x) (define (main) 0)",
-        b"psc: 17 not-built 0:1:9\n",
-    ),
-    (
-        b"(define (read-byte) 1) (define (main) 0)",
-        b"psc: 17 not-built 0:1:9\n",
-    ),
-    (
-        b"(define (+ x y) 1) (define (main) 0)",
-        b"psc: 17 not-built 0:1:9\n",
-    ),
-    (
-        b"(define (f =) 1) (define (main) 0)",
-        b"psc: 17 not-built 0:1:12\n",
-    ),
-    (
-        b"(define (f <) 1) (define (main) 0)",
-        b"psc: 17 not-built 0:1:12\n",
-    ),
-    (
-        b"(define (f *) 1) (define (main) 0)",
-        b"psc: 17 not-built 0:1:12\n",
-    ),
-    (
-        b"(define (f -) 1) (define (main) 0)",
-        b"psc: 17 not-built 0:1:12\n",
-    ),
+    (b"(define (f f) (f 1)) (define (main) (f 1))", 1, 16),
+    (b"(define (f x) (x)) (define (main) 0)", 1, 16),
+    (b"(define (f) 1) (define (main) (f 1))", 1, 31),
+    (b"(define (f x) 1) (define (main) (f))", 1, 33),
+    (b"(define (f x) 1) (define (main) (f 1 2))", 1, 33),
+    (b"(define (f x y) 1) (define (main) (+ 1 (f 1)))", 1, 40),
+    (b"(define (main) (main 1))", 1, 16),
+    (b"(define (f) 1)", 1, 1),
+    (b"(define (main x) x)", 1, 1),
+    (b"(define (f) 1) (define (main x) x)", 1, 1),
+    (b"(define (5) 1) (define (main) 0)", 1, 9),
+    (b"(define (f 5) 1) (define (main) 0)", 1, 12),
+    (b"(define (f (x)) 1) (define (main) 0)", 1, 12),
+    (b"(define ((f) x) 1) (define (main) 0)", 1, 9),
+    (b"(define () 1) (define (main) 0)", 1, 9),
+    (b"(define f 1) (define (main) 0)", 1, 9),
+    (b"(define (f)) (define (main) 0)", 1, 1),
+    (b"(define (if) 1) (define (main) 0)", 1, 9),
+    (b"(define (define) 1) (define (main) 0)", 1, 9),
+    (b"(define (write-byte x) x) (define (main) 0)", 1, 9),
+    (b"(define (read-byte) 1) (define (main) 0)", 1, 9),
+    (b"(define (+ x y) 1) (define (main) 0)", 1, 9),
+    (b"(define (f =) 1) (define (main) 0)", 1, 12),
+    (b"(define (f <) 1) (define (main) 0)", 1, 12),
+    (b"(define (f *) 1) (define (main) 0)", 1, 12),
+    (b"(define (f -) 1) (define (main) 0)", 1, 12),
 ];
 
-// Tokens of every kind, and which fault comes first.
-const FAULTS: &[Row] = &[
-    (b"(define (main) #x2A)", b""),
-    (b"(define (main) #b-101010)", b""),
-    (b"(define (main) #O52)", b""),
-    (b"(define (main) #d+42)", b""),
-    (b"; nothing\n", b"psc: 17 not-built 0:1:1\n"),
-    (b"(define (main) ; the answer\n  42)", b""),
-    (b"(define (main) 42) ; \"no string (", b""),
-    (
-        b"\n\n  (define (main)\n\t(+ 1 \n 2 3))",
-        b"psc: 17 not-built 0:4:2\n",
-    ),
-    (b"(define (main) \"text\")", b"psc: 17 not-built 0:1:16\n"),
-    (b"(define (main) #\\a)", b"psc: 17 not-built 0:1:16\n"),
-    (b"(define (main) #t)", b"psc: 17 not-built 0:1:16\n"),
-    (b"(define (main) 'x)", b"psc: 17 not-built 0:1:16\n"),
-    (b"(define (main) #(1 2))", b"psc: 17 not-built 0:1:16\n"),
-    (b"(define (main) (+ 1 . (2)))", b""),
-    (b"(define (main . ()) 1)", b""),
-    (b"(define (main) (+ 1 . 2))", b"psc: 17 not-built 0:1:16\n"),
-    (b"(define (main) 1 . (2))", b"psc: 17 not-built 0:1:16\n"),
-    (b"(define (quote x) x) (define (main) '7)", b""),
-    (
-        b"(define (main) (+ 1 (+ 2)) (write-byte))",
-        b"psc: 17 not-built 0:1:16\n",
-    ),
-    (
-        b"(define (main) (x)) (define (main) (+ 1))",
-        b"psc: 17 not-built 0:1:36\n",
-    ),
-    (
-        b"(define (f x) (g y)) (define (f) x)",
-        b"psc: 17 not-built 0:1:16\n",
-    ),
+// Data of every kind, and which fault comes first.
+const FIRST_FAULTS: &[Fault] = &[
+    (b"; nothing\n", 1, 1),
+    (b"\n\n  (define (main)\n\t(+ 1 \n 2 3))", 4, 2),
+    (b"(define (main) \"text\")", 1, 16),
+    (b"(define (main) #\\a)", 1, 16),
+    (b"(define (main) #t)", 1, 16),
+    (b"(define (main) 'x)", 1, 16),
+    (b"(define (main) #(1 2))", 1, 16),
+    (b"(define (main) (+ 1 . 2))", 1, 16),
+    (b"(define (main) 1 . (2))", 1, 16),
+    (b"(define (main) (+ 1 (+ 2)) (write-byte))", 1, 16),
+    (b"(define (main) (x)) (define (main) (+ 1))", 1, 36),
+    (b"(define (f x) (g y)) (define (f) x)", 1, 16),
     (
         b"(define (f x) (g x)) (define (g y z) 1) (define (f) 1) (define (main) 0)",
-        b"psc: 17 not-built 0:1:15\n",
+        1,
+        15,
     ),
     (
         b"(define (f x) (f)) (define (f) 1) (define (main) 0)",
-        b"psc: 17 not-built 0:1:15\n",
+        1,
+        15,
     ),
-    (
-        b"(define (f x) (f y)) (define (main) 0)",
-        b"psc: 17 not-built 0:1:18\n",
-    ),
-    (
-        b"(define (f x) (f y y)) (define (main) 0)",
-        b"psc: 17 not-built 0:1:15\n",
-    ),
-    (
-        b"(define (f x y x) z) (define (main) 0)",
-        b"psc: 17 not-built 0:1:16\n",
-    ),
-    (
-        b"(define (main) (if (< (f) 1) x y))",
-        b"psc: 17 not-built 0:1:24\n",
-    ),
-    (
-        b"(define (main) (write-byte z) (f))",
-        b"psc: 17 not-built 0:1:28\n",
-    ),
-    (
-        b"(define (f) 1)\n(define (main) (f 1))",
-        b"psc: 17 not-built 0:2:16\n",
-    ),
+    (b"(define (f x) (f y)) (define (main) 0)", 1, 18),
+    (b"(define (f x) (f y y)) (define (main) 0)", 1, 15),
+    (b"(define (f x y x) z) (define (main) 0)", 1, 16),
+    (b"(define (main) (if (< (f) 1) x y))", 1, 24),
+    (b"(define (main) (write-byte z) (f))", 1, 28),
+    (b"(define (f) 1)\n(define (main) (f 1))", 2, 16),
     (
         b"(define (f) 1)\n\n  (define (f) 2)\n(define (main) 0)",
-        b"psc: 17 not-built 0:3:12\n",
+        3,
+        12,
     ),
-    (b"((((", b"psc: 6 syntax unclosed 0:1:4\n"),
-    (
-        b"(((((((((((((((((((((((((((((((((((((((((((((((((((((((((((((((((((((((((((((((((((((((((((((((((((((((((((((((((((((((((((((((((((((((((((((((((((((((((((((((((((((((((((((((((((((((((((((((((((((((((",
-        b"psc: 6 syntax too-deep 0:1:201\n",
-    ),
-    (b"'", b"psc: 6 syntax unclosed 0:1:1\n"),
-    (b"(a . b", b"psc: 6 syntax unclosed 0:1:1\n"),
-    (
-        b"(define (main) \"a\\x\")",
-        b"psc: 6 syntax bad-escape 0:1:18\n",
-    ),
-    (b"(define (main) [1])", b"psc: 6 syntax bad-token 0:1:16\n"),
-    (
-        b"(define (main) 1e5)",
-        b"psc: 6 syntax float-literal 0:1:16\n",
-    ),
-    (b"(define (main) #xfg)", b"psc: 6 syntax bad-token 0:1:16\n"),
-    (b"(define (main) 0", b"psc: 6 syntax unclosed 0:1:1\n"),
 ];
 
-// Each row's line is told, and its text is compiled where there is none.
-fn tells(rt: &impl Abort, alloc: Global, rows: &[Row]) -> Result<(), Fail> {
-    for (text, line) in rows {
-        let (answer, output, errors) = told(alloc, text)?;
-        assert_eq!(rt; errors.bytes(), *line);
-        assert_eq!(rt; output.bytes().is_empty(), answer != Answer::Done);
-        assert_eq!(rt; line.is_empty(), answer == Answer::Done);
+// Texts that are not those of data, with their first breach.
+const BREACHES: &[(&[u8], SyntaxKind, u32, u32)] = &[
+    (b"(define (main) 9223372036854775808)", WideLiteral, 1, 16),
+    (b"(define (main) -9223372036854775809)", WideLiteral, 1, 16),
+    (b"(define (main) (+ 1 2)", Unclosed, 1, 1),
+    (b"(define (main) (+ 1 2)))", StrayClose, 1, 24),
+    (b"(define (main) 1.5)", FloatLiteral, 1, 16),
+    (b"(define (main) \xff)", BadToken, 1, 16),
+    (b")", StrayClose, 1, 1),
+    (b"(define (..) 1) (define (main) 0)", BadToken, 1, 10),
+    (b"(define (1+) 1) (define (main) 0)", BadToken, 1, 10),
+    (b"(define (-x) 1) (define (main) 0)", BadToken, 1, 10),
+    (b"(define (+x) 1) (define (main) 0)", BadToken, 1, 10),
+    (b"(define (.x) 1) (define (main) 0)", BadToken, 1, 10),
+    (b"(define (a'b) 1) (define (main) 0)", BadToken, 1, 10),
+    (b"(define (a,b) 1) (define (main) 0)", BadToken, 1, 10),
+    (b"(define (a#) 1) (define (main) 0)", BadToken, 1, 10),
+    (b"(define (a|) 1) (define (main) 0)", BadToken, 1, 10),
+    (b"(define (->#) 1) (define (main) 0)", BadToken, 1, 10),
+    (b"(define (f\xc3\xa9) 1) (define (main) 0)", BadToken, 1, 10),
+    (b"((((", Unclosed, 1, 4),
+    (
+        b"(((((((((((((((((((((((((((((((((((((((((((((((((((((((((((((((((((((((((((((((((((((((((((((((((((((((((((((((((((((((((((((((((((((((((((((((((((((((((((((((((((((((((((((((((((((((((((((((((((((((((",
+        TooDeep,
+        1,
+        201,
+    ),
+    (b"'", Unclosed, 1, 1),
+    (b"(a . b", Unclosed, 1, 1),
+    (b"(define (main) \"a\\x\")", BadEscape, 1, 18),
+    (b"(define (main) [1])", BadToken, 1, 16),
+    (b"(define (main) 1e5)", FloatLiteral, 1, 16),
+    (b"(define (main) #xfg)", BadToken, 1, 16),
+    (b"(define (main) 0", Unclosed, 1, 1),
+    (b"(define (main) \"0)", Unclosed, 1, 16),
+    (b"(define (main) 0))", StrayClose, 1, 18),
+    (b"(define (main) . 1 2)", BadDot, 1, 16),
+    (b"(define (main) #\\ab)", BadCharacter, 1, 16),
+];
+
+// Each text has this fault, and nothing is written.
+fn refuses(rt: &impl Abort, alloc: Global, faults: &[Fault]) -> Result<(), Fail> {
+    for (text, line, column) in faults {
+        let (answer, output) = compiled(alloc, text)?;
+        assert_eq!(rt; answer, not_built(*line, *column));
+        assert!(rt; output.bytes().is_empty());
     }
     Ok(())
 }
 
 #[test]
-fn compiles_programs_alone(rt: HostRuntime) -> Result<(), Fail> {
-    tells(&rt, rt.alloc(), BODIES)
+fn compiles_programs(rt: HostRuntime) -> Result<(), Fail> {
+    let alloc = rt.alloc();
+    for text in PROGRAMS {
+        let (answer, output) = compiled(alloc, text)?;
+        assert_eq!(rt; answer, Answer::Done);
+        assert!(rt; output.bytes().ends_with(FOOT));
+    }
+    Ok(())
 }
 
 #[test]
-fn resolves_names_alone(rt: HostRuntime) -> Result<(), Fail> {
-    tells(&rt, rt.alloc(), PROCEDURES)
+fn refuses_other_shapes(rt: HostRuntime) -> Result<(), Fail> {
+    refuses(&rt, rt.alloc(), SHAPES)
+}
+
+#[test]
+fn refuses_other_names(rt: HostRuntime) -> Result<(), Fail> {
+    refuses(&rt, rt.alloc(), NAMES)
 }
 
 #[test]
 fn tells_the_first_fault(rt: HostRuntime) -> Result<(), Fail> {
-    tells(&rt, rt.alloc(), FAULTS)
+    refuses(&rt, rt.alloc(), FIRST_FAULTS)
+}
+
+#[test]
+fn tells_the_first_breach(rt: HostRuntime) -> Result<(), Fail> {
+    let alloc = rt.alloc();
+    for (text, kind, line, column) in BREACHES {
+        let (answer, output) = compiled(alloc, text)?;
+        assert_eq!(rt; answer, syntax(*kind, *line, *column));
+        assert!(rt; output.bytes().is_empty());
+    }
+    Ok(())
 }
 
 // Appends ` x0`, ` x1` and so on, so many.

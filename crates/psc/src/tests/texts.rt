@@ -8,7 +8,7 @@ use ps_base::{Sink, Taken};
 use std::test::Fail;
 
 // What stands behind the statements of the last function.
-const FOOT: &[u8] = b"}\nint main(void) { return (int)(ps_f0() & 255); }\n";
+pub const FOOT: &[u8] = b"}\nint main(void) { return (int)(ps_f0() & 255); }\n";
 
 #[test]
 fn writes_the_text_of_the_unit(rt: HostRuntime) -> Result<(), Fail> {
