@@ -1,9 +1,9 @@
 //! The texts of data, byte for byte.
 
 use crate::*;
-use ps_base::{Boxed, Bytes, Items, Name, Names, NoMemory, Place};
+use ps_base::{Boxed, Bytes, Items, Name, Names, Place};
 use std::alloc::Global;
-use std::test::Fail;
+use std::process::Abort;
 
 fn datum(kind: DatumKind) -> Datum {
     Datum {
@@ -16,19 +16,19 @@ fn datum(kind: DatumKind) -> Datum {
     }
 }
 
-fn text(alloc: Global, bytes: &[u8]) -> Result<Datum, NoMemory> {
-    Ok(datum(DatumKind::Text(Items::from_slice(alloc, bytes)?)))
+fn text(rt: &(impl Abort + Alloc<A = Global>), bytes: &[u8]) -> Datum {
+    datum(DatumKind::Text(Items::from_slice(rt.alloc(), bytes).expect(rt, "memory")))
 }
 
-fn two(alloc: Global, first: Datum, second: Datum) -> Result<Items<Datum>, NoMemory> {
-    let mut items = Items::new(alloc);
-    items.push(first)?;
-    items.push(second)?;
-    Ok(items)
+fn two(rt: &(impl Abort + Alloc<A = Global>), first: Datum, second: Datum) -> Items<Datum> {
+    let mut items = Items::new(rt.alloc());
+    items.push(first).expect(rt, "memory");
+    items.push(second).expect(rt, "memory");
+    items
 }
 
-fn list(alloc: Global, first: Datum, second: Datum) -> Result<Datum, NoMemory> {
-    Ok(datum(DatumKind::List(two(alloc, first, second)?)))
+fn list(rt: &(impl Abort + Alloc<A = Global>), first: Datum, second: Datum) -> Datum {
+    datum(DatumKind::List(two(rt, first, second)))
 }
 
 fn integer(value: i64) -> Datum {
@@ -44,52 +44,52 @@ fn symbol(number: u32) -> Datum {
 }
 
 // ((0 . #\a) #(-1 "x"))
-fn nested(alloc: Global) -> Result<Datum, NoMemory> {
-    let mut items = Items::new(alloc);
-    items.push(integer(0))?;
-    let tail = Boxed::new(alloc, character(b'a'))?;
+fn nested(rt: &(impl Abort + Alloc<A = Global>)) -> Datum {
+    let mut items = Items::new(rt.alloc());
+    items.push(integer(0)).expect(rt, "memory");
+    let tail = Boxed::new(rt.alloc(), character(b'a')).expect(rt, "memory");
     let dotted = datum(DatumKind::Dotted(items, tail));
-    let x = text(alloc, b"x")?;
-    let vector = datum(DatumKind::Vector(two(alloc, integer(-1), x)?));
-    list(alloc, dotted, vector)
+    let x = text(rt, b"x");
+    let vector = datum(DatumKind::Vector(two(rt, integer(-1), x)));
+    list(rt, dotted, vector)
 }
 
 // (quote (car ()))
-fn quoted(alloc: Global) -> Result<Datum, NoMemory> {
-    let empty = datum(DatumKind::List(Items::new(alloc)));
-    let inner = list(alloc, symbol(1), empty)?;
-    list(alloc, symbol(0), inner)
+fn quoted(rt: &(impl Abort + Alloc<A = Global>)) -> Datum {
+    let empty = datum(DatumKind::List(Items::new(rt.alloc())));
+    let inner = list(rt, symbol(1), empty);
+    list(rt, symbol(0), inner)
 }
 
-fn names(alloc: Global) -> Result<Names, NoMemory> {
-    let mut names = Names::new(alloc);
-    names.add(b"quote")?;
+fn names(rt: &(impl Abort + Alloc<A = Global>)) -> Names {
+    let mut names = Names::new(rt.alloc());
+    names.add(b"quote").expect(rt, "memory");
     if names.len() < u32::MAX {
-        names.add(b"car")?;
+        names.add(b"car").expect(rt, "memory");
     }
-    Ok(names)
+    names
 }
 
 // The text of a datum, or none where it has an unknown name.
-fn text_of(alloc: Global, datum: &Datum) -> Result<Option<Bytes>, NoMemory> {
-    let names = names(alloc)?;
-    let mut out = Bytes::new(alloc);
+fn text_of(rt: &(impl Abort + Alloc<A = Global>), datum: &Datum) -> Option<Bytes> {
+    let names = names(rt);
+    let mut out = Bytes::new(rt.alloc());
     if !has_known_names(datum, &names) {
-        return Ok(None);
+        return None;
     }
-    write_datum(datum, &names, &mut out)?;
-    Ok(Some(out))
+    write_datum(datum, &names, &mut out).expect(rt, "memory");
+    Some(out)
 }
 
-fn writes(alloc: Global, datum: &Datum, text: &[u8]) -> Result<bool, NoMemory> {
-    match text_of(alloc, datum)? {
-        Some(out) => Ok(out.as_slice() == text),
-        None => Ok(false),
+fn writes(rt: &(impl Abort + Alloc<A = Global>), datum: &Datum, text: &[u8]) -> bool {
+    match text_of(rt, datum) {
+        Some(out) => out.as_slice() == text,
+        None => false,
     }
 }
 
 #[test]
-fn writes_atoms(rt: HostRuntime) -> Result<(), Fail> {
+fn writes_atoms(rt: HostRuntime) {
     let table = [
         (datum(DatumKind::Boolean(true)), b"#t".as_slice()),
         (datum(DatumKind::Boolean(false)), b"#f"),
@@ -101,28 +101,24 @@ fn writes_atoms(rt: HostRuntime) -> Result<(), Fail> {
         (symbol(1), b"car"),
     ];
     for (datum, text) in &table {
-        assert!(rt; writes(rt.alloc(), datum, text)?);
+        assert!(rt; writes(&rt, datum, text));
     }
-    assert!(rt; text_of(rt.alloc(), &symbol(2))?.is_none());
-    Ok(())
+    assert!(rt; text_of(&rt, &symbol(2)).is_none());
 }
 
 #[test]
-fn writes_strings(rt: HostRuntime) -> Result<(), Fail> {
+fn writes_strings(rt: HostRuntime) {
     let table = [
         (b"".as_slice(), b"\"\"".as_slice()),
         (b"a\"b\\c\nd", b"\"a\\\"b\\\\c\nd\""),
     ];
     for (bytes, written) in table {
-        assert!(rt; writes(rt.alloc(), &text(rt.alloc(), bytes)?, written)?);
+        assert!(rt; writes(&rt, &text(&rt, bytes), written));
     }
-    Ok(())
 }
 
 #[test]
-fn writes_trees(rt: HostRuntime) -> Result<(), Fail> {
-    let alloc = rt.alloc();
-    assert!(rt; writes(alloc, &nested(alloc)?, b"((0 . #\\a) #(-1 \"x\"))")?);
-    assert!(rt; writes(alloc, &quoted(alloc)?, b"(quote (car ()))")?);
-    Ok(())
+fn writes_trees(rt: HostRuntime) {
+    assert!(rt; writes(&rt, &nested(&rt), b"((0 . #\\a) #(-1 \"x\"))"));
+    assert!(rt; writes(&rt, &quoted(&rt), b"(quote (car ()))"));
 }

@@ -1,12 +1,13 @@
 //! Texts and the programs that they are.
 
+use crate::tests::fixture::{same, same_in};
 use crate::*;
 use fixture::{place, read, weights, with_parameters};
 use ps_base::{Fault, Name, Names, Place, Refusal};
 use ps_datum::Datum;
 use ps_plain::{Comparison, Expr, Operator, Program};
 use std::alloc::{AllocError, Global};
-use std::test::Fail;
+use std::process::Abort;
 
 mod faults;
 mod fixture;
@@ -214,69 +215,69 @@ fn halves(row: &[u8]) -> (&[u8], &[u8]) {
 }
 
 // The program that forms are, if they are one.
-fn program(alloc: Global, names: &Names, forms: &[Datum]) -> Result<Option<Program>, Fail> {
-    let weight = weights(forms).ok_or("large data")?;
+fn program(
+    rt: &(impl Abort + Alloc<A = Global>),
+    names: &Names,
+    forms: &[Datum],
+) -> Option<Program> {
+    let weight = weights(forms).expect(rt, "large data");
     if weight == u32::MAX {
-        return Err("large data".into());
+        panic!(rt; "large data");
     }
-    match resolve(alloc, names, forms) {
-        Ok(program) => Ok(Some(program)),
-        Err(Refusal::Fault(Fault::NotBuilt(_))) => Ok(None),
-        Err(Refusal::Fault(_)) => Err("another fault".into()),
-        Err(Refusal::NoMemory) => Err(AllocError.into()),
+    match resolve(rt.alloc(), names, forms) {
+        Ok(program) => Some(program),
+        Err(Refusal::Fault(Fault::NotBuilt(_))) => None,
+        Err(other) => panic!(rt; "{other:?}"),
     }
 }
 
 // The program that forms are, as `shown` writes it, or nothing where they are none.
-fn resolved_forms(alloc: Global, names: &Names, forms: &[Datum]) -> Result<String, Fail> {
-    match program(alloc, names, forms)? {
-        Some(program) => Ok(shown(alloc, names, &program)?),
-        None => Ok(String::new(alloc)),
+fn resolved_forms(rt: &(impl Abort + Alloc<A = Global>), names: &Names, forms: &[Datum]) -> String {
+    match program(rt, names, forms) {
+        Some(program) => shown(rt.alloc(), names, &program).expect(rt, "memory"),
+        None => String::new(rt.alloc()),
     }
 }
 
 // The same of a text.
-fn resolved(alloc: Global, text: &[u8]) -> Result<String, Fail> {
-    let reading = read(alloc, text)?;
-    resolved_forms(alloc, &reading.names, reading.inner.as_slice())
+fn resolved(rt: &(impl Abort + Alloc<A = Global>), text: &[u8]) -> String {
+    let reading = read(rt, text);
+    resolved_forms(rt, &reading.names, reading.inner.as_slice())
 }
 
 #[test]
-fn resolves(rt: HostRuntime) -> Result<(), Fail> {
+fn resolves(rt: HostRuntime) {
     for table in [PROGRAMS, NAMES, KEYWORDS, WORDS] {
         for row in table.split(|b| *b == b'\n') {
             let (text, want) = halves(row);
-            let program = resolved(rt.alloc(), text)?;
-            assert_eq!(rt;
+            let program = resolved(&rt, text);
+            same_in(
+                &rt,
+                &str::from_utf8(text).unwrap_or("a text"),
                 program.as_bytes(),
                 want,
-                "{}",
-                str::from_utf8(text).unwrap_or("a text")
             );
         }
     }
-    Ok(())
 }
 
 #[test]
-fn counts_parameters(rt: HostRuntime) -> Result<(), Fail> {
+fn counts_parameters(rt: HostRuntime) {
     for (count, last, want) in [
         (127, "last", "1:[main 0 16:1]19:[f 127 558:x126]"),
         (128, "last", ""),
         (127, "x1", ""),
     ] {
-        let text = with_parameters(rt.alloc(), count, last, last)?;
-        assert_eq!(rt; resolved(rt.alloc(), text.as_bytes())?.as_str(), want);
+        let text = with_parameters(&rt, count, last, last);
+        same(&rt, resolved(&rt, text.as_bytes()).as_str(), want);
     }
-    Ok(())
 }
 
 #[test]
-fn a_number_without_a_text_is_no_name(rt: HostRuntime) -> Result<(), Fail> {
-    let alloc = rt.alloc();
+fn a_number_without_a_text_is_no_name(rt: HostRuntime) {
     // The names in order of the text: define, main, f, x.
-    let reading = read(alloc, b"(define (main) 1) (define (f x) x)")?;
-    let mut names = Names::new(alloc);
+    let reading = read(&rt, b"(define (main) 1) (define (f x) x)");
+    let mut names = Names::new(rt.alloc());
     for (word, want) in [
         (b"define".as_slice(), ""),
         (b"main", ""),
@@ -284,51 +285,53 @@ fn a_number_without_a_text_is_no_name(rt: HostRuntime) -> Result<(), Fail> {
         (b"x", "1:[main 0 16:1]19:[f 1 33:x0]"),
     ] {
         if names.len() < u32::MAX {
-            names.add(word)?;
+            names.add(word).expect(&rt, "memory");
         }
-        assert_eq!(rt;
-            resolved_forms(alloc, &names, reading.inner.as_slice())?.as_str(),
-            want
+        same(
+            &rt,
+            resolved_forms(&rt, &names, reading.inner.as_slice()).as_str(),
+            want,
         );
     }
-    Ok(())
 }
 
 // The program that a text is.
-fn program_of(alloc: Global, text: &[u8]) -> Result<Program, Fail> {
-    let reading = read(alloc, text)?;
+fn program_of(rt: &(impl Abort + Alloc<A = Global>), text: &[u8]) -> Program {
+    let reading = read(rt, text);
     let forms = reading.inner.as_slice();
-    Ok(program(alloc, &reading.names, forms)?.ok_or("no program")?)
+    program(rt, &reading.names, forms).expect(rt, "no program")
 }
 
 // A result without 64 bits is told at the place of its operation.
 #[test]
-fn an_operation_has_the_place_of_its_bracket(rt: HostRuntime) -> Result<(), Fail> {
+fn an_operation_has_the_place_of_its_bracket(rt: HostRuntime) {
     let text = b"(define (main) (- 1  (* 9223372036854775807 2)))";
-    let program = program_of(rt.alloc(), text)?;
-    let main = program.procedures.as_slice().first().ok_or("no procedure")?;
+    let program = program_of(&rt, text);
+    let main = program
+        .procedures
+        .as_slice()
+        .first()
+        .expect(&rt, "no procedure");
     let Expr::Operation(difference, _, _, right) = &main.value else {
-        return Err("no operation".into());
+        panic!(rt; "no operation");
     };
     let Expr::Operation(product, _, _, _) = right.get() else {
-        return Err("no operation".into());
+        panic!(rt; "no operation");
     };
-    assert_eq!(rt; *difference, place(16));
-    assert_eq!(rt; *product, place(22));
-    Ok(())
+    same(&rt, *difference, place(16));
+    same(&rt, *product, place(22));
 }
 
 #[test]
-fn a_procedure_has_its_name_and_place(rt: HostRuntime) -> Result<(), Fail> {
+fn a_procedure_has_its_name_and_place(rt: HostRuntime) {
     // The names in order of the text: define, f, x, main.
     let text = b"(define (f x) x) (define (main) (f 1))";
-    let program = program_of(rt.alloc(), text)?;
+    let program = program_of(&rt, text);
     let [main, f] = program.procedures.as_slice() else {
-        return Err("another number of procedures".into());
+        panic!(rt; "another number of procedures");
     };
-    assert_eq!(rt; main.name, Name(3));
-    assert_eq!(rt; main.place, place(18));
-    assert_eq!(rt; f.name, Name(1));
-    assert_eq!(rt; f.place, place(1));
-    Ok(())
+    same(&rt, main.name, Name(3));
+    same(&rt, main.place, place(18));
+    same(&rt, f.name, Name(1));
+    same(&rt, f.place, place(1));
 }

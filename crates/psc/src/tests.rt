@@ -12,7 +12,18 @@ use crate::run::run_psc;
 use ps_base::{Fault, Items, Place, SyntaxKind};
 use ps_edge::{MemorySink, MemorySource};
 use std::alloc::Global;
-use std::test::Fail;
+use std::fmt::Debug;
+use std::process::Abort;
+
+/// What was got is what is wanted.
+pub fn same<T: PartialEq + Debug + Drop>(rt: &impl Abort, got: T, want: T) {
+    assert_eq!(rt; got, want);
+}
+
+/// The same, in a case of several.
+pub fn same_in<T: PartialEq + Debug + Drop>(rt: &impl Abort, case: &impl Debug, got: T, want: T) {
+    assert_eq!(rt; got, want, "{case:?}");
+}
 
 // The refusal of a text that is no program, at a place of the text.
 fn not_built(line: u32, column: u32) -> Answer {
@@ -35,40 +46,61 @@ fn syntax(kind: SyntaxKind, line: u32, column: u32) -> Answer {
     ))
 }
 
-fn source(alloc: Global, text: &[u8], step: usize, failing: &[u64]) -> Result<MemorySource, Fail>
+fn source(
+    rt: &(impl Abort + Alloc<A = Global>),
+    text: &[u8],
+    step: usize,
+    failing: &[u64],
+) -> MemorySource
     requires { 0 < step }
 {
-    let bytes = Items::from_slice(alloc, text)?;
-    Ok(MemorySource::new(bytes, step, Items::from_slice(alloc, failing)?))
+    let bytes = Items::from_slice(rt.alloc(), text).expect(rt, "memory");
+    MemorySource::new(
+        bytes,
+        step,
+        Items::from_slice(rt.alloc(), failing).expect(rt, "memory"),
+    )
 }
 
-fn sink(alloc: Global, room: usize, step: usize, failing: &[u64]) -> Result<MemorySink, Fail>
+fn sink(
+    rt: &(impl Abort + Alloc<A = Global>),
+    room: usize,
+    step: usize,
+    failing: &[u64],
+) -> MemorySink
     requires { 0 < step }
 {
-    Ok(MemorySink::new(alloc, room, step, Items::from_slice(alloc, failing)?)?)
+    MemorySink::new(
+        rt.alloc(),
+        room,
+        step,
+        Items::from_slice(rt.alloc(), failing).expect(rt, "memory"),
+    )
+    .expect(rt, "memory")
 }
 
-fn strings(alloc: Global, words: &[&str]) -> Result<Vec<String>, Fail> {
-    let mut strings = Vec::new(alloc);
+fn strings(rt: &(impl Abort + Alloc<A = Global>), words: &[&str]) -> Vec<String> {
+    let mut strings = Vec::new(rt.alloc());
     for word in words {
-        strings.push(String::from_str(alloc, word)?)?;
+        strings
+            .push(String::from_str(rt.alloc(), word).expect(rt, "memory"))
+            .expect(rt, "memory");
     }
-    Ok(strings)
+    strings
 }
 
 // What `compile` answers to a text, and what it writes.
-fn compiled(alloc: Global, text: &[u8]) -> Result<(Answer, MemorySink), Fail> {
-    let words = strings(alloc, &["compile"])?;
-    let mut input = source(alloc, text, 4096, &[])?;
-    let mut output = sink(alloc, 1_000_000, 4096, &[])?;
-    let mut errors = sink(alloc, 1000, 4096, &[])?;
-    let answer = run_psc(alloc, &words, &mut input, &mut output, &mut errors);
-    Ok((answer, output))
+fn compiled(rt: &(impl Abort + Alloc<A = Global>), text: &[u8]) -> (Answer, MemorySink) {
+    let words = strings(rt, &["compile"]);
+    let mut input = source(rt, text, 4096, &[]);
+    let mut output = sink(rt, 1_000_000, 4096, &[]);
+    let mut errors = sink(rt, 1000, 4096, &[]);
+    let answer = run_psc(rt.alloc(), &words, &mut input, &mut output, &mut errors);
+    (answer, output)
 }
 
 #[test]
-fn refuses_words_that_break_the_rules(rt: HostRuntime) -> Result<(), Fail> {
-    let alloc = rt.alloc();
+fn refuses_words_that_break_the_rules(rt: HostRuntime) {
     let cases: &[(&[&str], Answer, &[u8])] = &[
         (&[], Refused(Fault::Usage(0)), b"psc: 1 usage 0\n"),
         (&["check"], Refused(Fault::Usage(0)), b"psc: 1 usage 0\n"),
@@ -97,16 +129,15 @@ fn refuses_words_that_break_the_rules(rt: HostRuntime) -> Result<(), Fail> {
         (&["compile"], Done, b""),
     ];
     for (words, wanted, line) in cases {
-        let words = strings(alloc, words)?;
-        let mut input = source(alloc, b"(define (main) 42)", 5, &[])?;
-        let mut output = sink(alloc, 10_000, 7, &[])?;
-        let mut errors = sink(alloc, 100, 3, &[])?;
-        let answer = run_psc(alloc, &words, &mut input, &mut output, &mut errors);
-        assert_eq!(rt; answer, *wanted);
-        assert_eq!(rt; errors.bytes(), *line);
-        assert_eq!(rt; output.bytes().is_empty(), answer != Done);
+        let words = strings(&rt, words);
+        let mut input = source(&rt, b"(define (main) 42)", 5, &[]);
+        let mut output = sink(&rt, 10_000, 7, &[]);
+        let mut errors = sink(&rt, 100, 3, &[]);
+        let answer = run_psc(rt.alloc(), &words, &mut input, &mut output, &mut errors);
+        same(&rt, answer, *wanted);
+        same(&rt, errors.bytes(), *line);
+        same(&rt, output.bytes().is_empty(), answer != Done);
     }
-    Ok(())
 }
 
 // The calls of the input, the output and the errors that are to fail, and then the answer to `(define (main) 42)`, how many
@@ -121,8 +152,7 @@ type Failing = (
 );
 
 #[test]
-fn says_what_failed(rt: HostRuntime) -> Result<(), Fail> {
-    let alloc = rt.alloc();
+fn says_what_failed(rt: HostRuntime) {
     // The input gives its 18 bytes in calls 0 to 3, and its end at call 4.
     let cases: &[Failing] = &[
         (
@@ -148,37 +178,35 @@ fn says_what_failed(rt: HostRuntime) -> Result<(), Fail> {
         (&[], &[2], &[1], Refused(Fault::Sink), 200, b"psc: 3 sink\n"),
         (&[], &[], &[0], Done, 2945, b""),
     ];
-    let words = strings(alloc, &["compile"])?;
-    let (_, whole) = compiled(alloc, b"(define (main) 42)")?;
+    let words = strings(&rt, &["compile"]);
+    let (_, whole) = compiled(&rt, b"(define (main) 42)");
     for (reads, writes, lines, wanted, size, line) in cases {
-        let mut input = source(alloc, b"(define (main) 42)", 5, reads)?;
-        let mut output = sink(alloc, 10_000, 100, writes)?;
-        let mut errors = sink(alloc, 100, 8, lines)?;
-        let answer = run_psc(alloc, &words, &mut input, &mut output, &mut errors);
-        assert_eq!(rt; answer, *wanted);
-        assert_eq!(rt; output.bytes().len(), *size);
+        let mut input = source(&rt, b"(define (main) 42)", 5, reads);
+        let mut output = sink(&rt, 10_000, 100, writes);
+        let mut errors = sink(&rt, 100, 8, lines);
+        let answer = run_psc(rt.alloc(), &words, &mut input, &mut output, &mut errors);
+        same(&rt, answer, *wanted);
+        same(&rt, output.bytes().len(), *size);
         assert!(rt; whole.bytes().starts_with(output.bytes()));
         assert!(rt; line.starts_with(errors.bytes()));
-        assert_eq!(rt;
+        same(
+            &rt,
             errors.bytes().len() == line.len(),
-            lines.is_empty() || line.is_empty()
+            lines.is_empty() || line.is_empty(),
         );
     }
-    Ok(())
 }
 
 #[test]
-fn takes_texts_up_to_the_limit(rt: HostRuntime) -> Result<(), Fail> {
-    let alloc = rt.alloc();
+fn takes_texts_up_to_the_limit(rt: HostRuntime) {
     let cases: &[(usize, Answer)] = &[
         (4_194_304, not_built(1, 1)),
         (4_194_305, Refused(Fault::TooLong(0))),
     ];
     for (spaces, wanted) in cases {
-        let text = vec![in alloc; b' '; *spaces]?;
-        let (answer, output) = compiled(alloc, &text)?;
-        assert_eq!(rt; answer, *wanted);
+        let text = vec![in rt.alloc(); b' '; *spaces].expect(&rt, "memory");
+        let (answer, output) = compiled(&rt, &text);
+        same(&rt, answer, *wanted);
         assert!(rt; output.bytes().is_empty());
     }
-    Ok(())
 }

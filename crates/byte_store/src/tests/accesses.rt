@@ -1,10 +1,9 @@
 //! Accesses that have no block of their kind, and bytes.
 
-use crate::tests::fixture::{blocks, fixed, made};
+use crate::tests::fixture::{blocks, fixed, made, same_in};
 use crate::{Pointer, Store, Value};
 use ps_base::Op::{self, Bounds, Byte, Freed, Unset};
 use std::process::Abort;
-use std::test::Fail;
 
 /// Each access at a pointer has this cause.
 pub fn no_access(rt: &impl Abort, store: &mut Store<Value>, p: Pointer, op: Op) {
@@ -13,23 +12,23 @@ pub fn no_access(rt: &impl Abort, store: &mut Store<Value>, p: Pointer, op: Op) 
 }
 
 fn no_bytes(rt: &impl Abort, store: &mut Store<Value>, p: Pointer, op: Op) {
-    assert_eq!(rt; store.load(p), Err(op), "{p:?}");
-    assert_eq!(rt; store.set_byte(p, 0), Err(op), "{p:?}");
-    assert_eq!(rt; store.load_word(p), Err(op), "{p:?}");
-    assert_eq!(rt; store.set_word(p, 0), Err(op), "{p:?}");
-    assert_eq!(rt; store.text_length(p), Err(op), "{p:?}");
-    assert_eq!(rt; store.text_at(p, 0), Err(op), "{p:?}");
+    same_in(rt, &p, store.load(p), Err(op));
+    same_in(rt, &p, store.set_byte(p, 0), Err(op));
+    same_in(rt, &p, store.load_word(p), Err(op));
+    same_in(rt, &p, store.set_word(p, 0), Err(op));
+    same_in(rt, &p, store.text_length(p), Err(op));
+    same_in(rt, &p, store.text_at(p, 0), Err(op));
 }
 
 fn no_cells(rt: &impl Abort, store: &mut Store<Value>, p: Pointer, op: Op) {
-    assert_eq!(rt; store.get(p, 0), Err(op), "{p:?}");
-    assert_eq!(rt; store.put(p, 0, Value::Unit), Err(op), "{p:?}");
-    assert_eq!(rt; store.cell_count(p), Err(op), "{p:?}");
+    same_in(rt, &p, store.get(p, 0), Err(op));
+    same_in(rt, &p, store.put(p, 0, Value::Unit), Err(op));
+    same_in(rt, &p, store.cell_count(p), Err(op));
 }
 
 #[test]
-fn no_block_or_a_freed_one_or_of_the_other_kind(rt: HostRuntime) -> Result<(), Fail> {
-    let mut store = blocks(&rt, rt.alloc())?;
+fn no_block_or_a_freed_one_or_of_the_other_kind(rt: HostRuntime) {
+    let mut store = blocks(&rt, rt.alloc());
     let cases = [
         (Pointer::Null, Bounds),
         (fixed(0, 0), Bounds),
@@ -58,12 +57,11 @@ fn no_block_or_a_freed_one_or_of_the_other_kind(rt: HostRuntime) -> Result<(), F
     for p in [fixed(1, 0), made(0, 0), made(0, 8), fixed(4, 0)] {
         no_cells(&rt, &mut store, p, Bounds);
     }
-    Ok(())
 }
 
 #[test]
-fn bytes_are_read(rt: HostRuntime) -> Result<(), Fail> {
-    let store = blocks(&rt, rt.alloc())?;
+fn bytes_are_read(rt: HostRuntime) {
+    let store = blocks(&rt, rt.alloc());
     let cases = [
         (fixed(1, 0), Ok(97)),
         (fixed(1, 2), Ok(0)),
@@ -80,14 +78,13 @@ fn bytes_are_read(rt: HostRuntime) -> Result<(), Fail> {
         (made(0, i64::MIN), Err(Bounds)),
     ];
     for (p, want) in cases {
-        assert_eq!(rt; store.load(p), want, "{p:?}");
+        same_in(&rt, &p, store.load(p), want);
     }
-    Ok(())
 }
 
 #[test]
-fn bytes_are_put(rt: HostRuntime) -> Result<(), Fail> {
-    let mut store = blocks(&rt, rt.alloc())?;
+fn bytes_are_put(rt: HostRuntime) {
+    let mut store = blocks(&rt, rt.alloc());
     // No byte comes before all other causes.
     for p in [
         Pointer::Null,
@@ -97,7 +94,7 @@ fn bytes_are_put(rt: HostRuntime) -> Result<(), Fail> {
         made(0, 0),
     ] {
         for byte in [256, -1, i64::MAX, i64::MIN] {
-            assert_eq!(rt; store.set_byte(p, byte), Err(Byte), "{p:?} {byte}");
+            same_in(&rt, &(p, byte), store.set_byte(p, byte), Err(Byte));
         }
     }
     // What is put, and what is read there then.
@@ -111,8 +108,7 @@ fn bytes_are_put(rt: HostRuntime) -> Result<(), Fail> {
         (made(0, i64::MIN), 1, Err(Bounds), Err(Bounds)),
     ];
     for (p, byte, want, there) in cases {
-        assert_eq!(rt; store.set_byte(p, byte), want, "{p:?}");
-        assert_eq!(rt; store.load(p), there, "{p:?}");
+        same_in(&rt, &p, store.set_byte(p, byte), want);
+        same_in(&rt, &p, store.load(p), there);
     }
-    Ok(())
 }

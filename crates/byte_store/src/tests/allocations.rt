@@ -3,18 +3,17 @@
 use crate::Pointer::Null;
 use crate::StoreFault::Undefined;
 use crate::Value::Integer;
-use crate::tests::fixture::{fixed, free, made, make_bytes, make_cells, world_of};
+use crate::tests::fixture::{fixed, free, made, make_bytes, make_cells, same, same_in, world_of};
 use crate::{Store, Word};
 use ps_base::Items;
 use ps_base::Op::{Bounds, Freed, Size, Unset};
-use std::test::Fail;
 
 #[test]
-fn sizes_and_grants(rt: HostRuntime) -> Result<(), Fail> {
+fn sizes_and_grants(rt: HostRuntime) {
     let mut bytes = Store::new(rt.alloc());
     let mut cells = Store::new(rt.alloc());
-    let mut world = world_of(rt.alloc(), &[true, false, true])?;
-    let mut other = world_of(rt.alloc(), &[true, false, true])?;
+    let mut world = world_of(&rt, rt.alloc(), &[true, false, true]);
+    let mut other = world_of(&rt, rt.alloc(), &[true, false, true]);
     // A size that no block may have uses no grant. Past the end of the grants allocations are refused.
     let cases = [
         (0, Err(Undefined(Size))),
@@ -31,11 +30,12 @@ fn sizes_and_grants(rt: HostRuntime) -> Result<(), Fail> {
         (1099511627776, Ok(Null)),
     ];
     for (size, want) in cases {
-        assert_eq!(rt; make_bytes(&mut bytes, &mut world, size), want, "{size}");
-        assert_eq!(rt;
+        same_in(&rt, &size, make_bytes(&mut bytes, &mut world, size), want);
+        same_in(
+            &rt,
+            &size,
             make_cells(&mut cells, &mut other, size, None),
             want,
-            "{size}"
         );
     }
     // Nothing is set, and the refused ones made no block.
@@ -48,25 +48,24 @@ fn sizes_and_grants(rt: HostRuntime) -> Result<(), Fail> {
         (made(2, 0), Bounds),
     ];
     for (p, op) in places {
-        assert_eq!(rt; bytes.load(p), Err(op), "{p:?}");
-        assert_eq!(rt; cells.get(p, 0), Err(op), "{p:?}");
+        same_in(&rt, &p, bytes.load(p), Err(op));
+        same_in(&rt, &p, cells.get(p, 0), Err(op));
     }
-    Ok(())
 }
 
 #[test]
-fn made_blocks_are_numbered_in_order(rt: HostRuntime) -> Result<(), Fail> {
+fn made_blocks_are_numbered_in_order(rt: HostRuntime) {
     let mut store = Store::new(rt.alloc());
-    let mut world = world_of(rt.alloc(), &[true, true, false, true])?;
+    let mut world = world_of(&rt, rt.alloc(), &[true, true, false, true]);
     let filled = make_cells(&mut store, &mut world, 2, Some(Integer(5)));
-    assert_eq!(rt; filled, Ok(made(0, 0)));
-    assert_eq!(rt; free(&mut store, made(0, 0)), Ok(()));
+    same(&rt, filled, Ok(made(0, 0)));
+    same(&rt, free(&mut store, made(0, 0)), Ok(()));
     // The number of a block that was freed is not given again.
     let filled = make_cells(&mut store, &mut world, 2, Some(Integer(6)));
-    assert_eq!(rt; filled, Ok(made(1, 0)));
-    assert_eq!(rt; make_bytes(&mut store, &mut world, 1), Ok(Null));
+    same(&rt, filled, Ok(made(1, 0)));
+    same(&rt, make_bytes(&mut store, &mut world, 1), Ok(Null));
     let unset = make_cells(&mut store, &mut world, 1, None);
-    assert_eq!(rt; unset, Ok(made(2, 0)));
+    same(&rt, unset, Ok(made(2, 0)));
     let cases = [
         (made(0, 0), Err(Freed)),
         (made(1, 0), Ok(Integer(6))),
@@ -77,20 +76,22 @@ fn made_blocks_are_numbered_in_order(rt: HostRuntime) -> Result<(), Fail> {
         (made(3, 0), Err(Bounds)),
     ];
     for (p, want) in cases {
-        assert_eq!(rt; store.get(p, 0), want, "{p:?}");
+        same_in(&rt, &p, store.get(p, 0), want);
     }
-    Ok(())
 }
 
 #[test]
-fn fixed_blocks_have_their_numbers(rt: HostRuntime) -> Result<(), Fail> {
+fn fixed_blocks_have_their_numbers(rt: HostRuntime) {
     let mut store = Store::new(rt.alloc());
-    assert_eq!(rt; store.next_fixed(), 0);
-    assert_eq!(rt; store.fix_bytes(3, b"\0\xff"), Ok(()));
-    assert_eq!(rt; store.next_fixed(), 4);
-    let words = Items::from_slice(rt.alloc(), &[Word::Number(-5), Word::Pointer(fixed(3, 1))])?;
-    assert_eq!(rt; store.fix_cells(4294967294, words), Ok(()));
-    assert_eq!(rt; store.next_fixed(), 4294967295);
+    same(&rt, store.next_fixed(), 0);
+    same(&rt, store.fix_bytes(3, b"\0\xff"), Ok(()));
+    same(&rt, store.next_fixed(), 4);
+    let words = Items::from_slice(
+        rt.alloc(),
+        &[Word::Number(-5), Word::Pointer(fixed(3, 1))],
+    ).expect(&rt, "memory");
+    same(&rt, store.fix_cells(4294967294, words), Ok(()));
+    same(&rt, store.next_fixed(), 4294967295);
     let bytes = [
         (fixed(3, 0), Ok(0)),
         (fixed(3, 1), Ok(255)),
@@ -102,7 +103,7 @@ fn fixed_blocks_have_their_numbers(rt: HostRuntime) -> Result<(), Fail> {
         (made(3, 0), Err(Bounds)),
     ];
     for (p, want) in bytes {
-        assert_eq!(rt; store.load(p), want, "{p:?}");
+        same_in(&rt, &p, store.load(p), want);
     }
     let cells = [
         (0, Ok(Word::Number(-5))),
@@ -110,7 +111,6 @@ fn fixed_blocks_have_their_numbers(rt: HostRuntime) -> Result<(), Fail> {
         (2, Err(Bounds)),
     ];
     for (at, want) in cells {
-        assert_eq!(rt; store.get(fixed(4294967294, 0), at), want, "{at}");
+        same_in(&rt, &at, store.get(fixed(4294967294, 0), at), want);
     }
-    Ok(())
 }

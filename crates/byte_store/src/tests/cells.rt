@@ -1,14 +1,13 @@
 //! Cells, and the word of each value.
 
 use crate::Value::{Address, Boolean, Char, Integer, Text, Tuple, Unit, Vector};
-use crate::tests::fixture::{blocks, fixed, made};
+use crate::tests::fixture::{blocks, fixed, made, same, same_in};
 use crate::{Cell, Pointer, Word};
 use ps_base::Op::{Bounds, Freed, Unset};
-use std::test::Fail;
 
 #[test]
-fn cells_are_read(rt: HostRuntime) -> Result<(), Fail> {
-    let store = blocks(&rt, rt.alloc())?;
+fn cells_are_read(rt: HostRuntime) {
+    let store = blocks(&rt, rt.alloc());
     // Where the sum of an offset and an index is inside, it makes no difference that the offset is not.
     let cases = [
         (fixed(3, 0), 0, Ok(Integer(7))),
@@ -34,14 +33,13 @@ fn cells_are_read(rt: HostRuntime) -> Result<(), Fail> {
         (Pointer::Null, -1, Err(Bounds)),
     ];
     for (p, at, want) in cases {
-        assert_eq!(rt; store.get(p, at), want, "{p:?} {at}");
+        same_in(&rt, &(p, at), store.get(p, at), want);
     }
-    Ok(())
 }
 
 #[test]
-fn cells_are_put(rt: HostRuntime) -> Result<(), Fail> {
-    let mut store = blocks(&rt, rt.alloc())?;
+fn cells_are_put(rt: HostRuntime) {
+    let mut store = blocks(&rt, rt.alloc());
     let cases = [
         (made(1, 0), 2, Unit, Ok(())),
         (made(1, 2), -1, Tuple(5, made(3, 1)), Ok(())),
@@ -55,7 +53,7 @@ fn cells_are_put(rt: HostRuntime) -> Result<(), Fail> {
         (Pointer::Null, 0, Unit, Err(Bounds)),
     ];
     for (p, at, value, want) in cases {
-        assert_eq!(rt; store.put(p, at, value), want, "{p:?} {at}");
+        same_in(&rt, &(p, at), store.put(p, at, value), want);
     }
     let cells = [
         (made(1, 0), Char(65)),
@@ -65,14 +63,13 @@ fn cells_are_put(rt: HostRuntime) -> Result<(), Fail> {
         (fixed(3, 1), Boolean(true)),
     ];
     for (p, value) in cells {
-        assert_eq!(rt; store.get(p, 0), Ok(value), "{p:?}");
+        same_in(&rt, &p, store.get(p, 0), Ok(value));
     }
-    Ok(())
 }
 
 #[test]
-fn cells_are_counted(rt: HostRuntime) -> Result<(), Fail> {
-    let store = blocks(&rt, rt.alloc())?;
+fn cells_are_counted(rt: HostRuntime) {
+    let store = blocks(&rt, rt.alloc());
     let cases = [
         (made(1, 0), Ok(3)),
         (made(1, 2), Ok(1)),
@@ -84,9 +81,8 @@ fn cells_are_counted(rt: HostRuntime) -> Result<(), Fail> {
         (fixed(3, 1), Ok(2)),
     ];
     for (p, want) in cases {
-        assert_eq!(rt; store.cell_count(p), want, "{p:?}");
+        same_in(&rt, &p, store.cell_count(p), want);
     }
-    Ok(())
 }
 
 fn shown<C: Cell>(cell: &C) -> Word {
@@ -109,7 +105,7 @@ fn each_value_has_its_word(rt: HostRuntime) {
         (Tuple(9, made(7, 8)), Word::Pointer(made(7, 8))),
     ];
     for (value, word) in cases {
-        assert_eq!(rt; shown(&value), word, "{value:?}");
-        assert_eq!(rt; shown(&word), word);
+        same_in(&rt, &value, shown(&value), word);
+        same(&rt, shown(&word), word);
     }
 }

@@ -3,10 +3,20 @@
 ghost use Rattle.std.specs.Prelude.{◌≡◌, ◌+◌, ◌<◌, ◌≤◌, length};
 
 use crate::{Base, Pointer, Store, StoreFault, Value, World};
-use ps_base::{Items, NoMemory, Op};
+use ps_base::{Items, Op};
 use std::alloc::{Allocator, Global};
+use std::fmt::Debug;
 use std::process::Abort;
-use std::test::Fail;
+
+/// What was got is what is wanted.
+pub fn same<T: PartialEq + Debug + Drop>(rt: &impl Abort, got: T, want: T) {
+    assert_eq!(rt; got, want);
+}
+
+/// The same, in a case of several.
+pub fn same_in<T: PartialEq + Debug + Drop>(rt: &impl Abort, case: &impl Debug, got: T, want: T) {
+    assert_eq!(rt; got, want, "{case:?}");
+}
 
 /// A pointer into a fixed block.
 pub fn fixed(number: u32, offset: i64) -> Pointer {
@@ -19,9 +29,9 @@ pub fn made(number: u32, offset: i64) -> Pointer {
 }
 
 /// A world without input.
-pub fn world_of(alloc: Global, grants: &[bool]) -> Result<World, NoMemory> {
-    let grants = Items::from_slice(alloc, grants)?;
-    Ok(World::new(Items::new(alloc), grants))
+pub fn world_of(rt: &impl Abort, alloc: Global, grants: &[bool]) -> World {
+    let grants = Items::from_slice(alloc, grants).expect(rt, "memory");
+    World::new(Items::new(alloc), grants)
 }
 
 /// Makes a block of bytes in a store of few made blocks.
@@ -59,29 +69,35 @@ pub fn free<A: Allocator + Copy>(store: &mut Store<Value, A>, p: Pointer) -> Res
 /// Fixed block 1 has the bytes of `ab`, 0 and `c`, fixed block 3 three cells, and fixed block 4 nothing. Made block 0 has
 /// twelve bytes, of which the first eight are a word, made block 1 three cells, of which the first is set, and made blocks
 /// 2, of bytes, and 3, of cells, were freed.
-pub fn blocks(rt: &impl Abort, alloc: Global) -> Result<Store<Value>, Fail> {
+pub fn blocks(rt: &impl Abort, alloc: Global) -> Store<Value> {
     let mut store = Store::new(alloc);
-    let mut world = world_of(alloc, &[true; 4])?;
-    let bytes = make_bytes(&mut store, &mut world, 12)?;
-    let cells = make_cells(&mut store, &mut world, 3, None)?;
-    let freed_bytes = make_bytes(&mut store, &mut world, 8)?;
-    let freed_cells = make_cells(&mut store, &mut world, 2, Some(Value::Unit))?;
-    store.set_word(bytes, 0x0102030405060708)?;
-    store.put(cells, 0, Value::Char(65))?;
-    store.release(freed_bytes)?;
-    store.release(freed_cells)?;
-    fix(rt, alloc, &mut store)?;
-    Ok(store)
+    let mut world = world_of(rt, alloc, &[true; 4]);
+    let bytes = make_bytes(&mut store, &mut world, 12).expect(rt, "an answer");
+    let cells = make_cells(&mut store, &mut world, 3, None).expect(rt, "an answer");
+    let freed_bytes = make_bytes(&mut store, &mut world, 8).expect(rt, "an answer");
+    let freed_cells = make_cells(&mut store, &mut world, 2, Some(Value::Unit)).expect(
+        rt,
+        "an answer",
+    );
+    store
+        .set_word(bytes, 0x0102030405060708)
+        .expect(rt, "memory");
+    store.put(cells, 0, Value::Char(65)).expect(rt, "an answer");
+    store.release(freed_bytes).expect(rt, "an answer");
+    store.release(freed_cells).expect(rt, "an answer");
+    fix(rt, alloc, &mut store);
+    store
 }
 
 // Adds the fixed blocks.
-fn fix(rt: &impl Abort, alloc: Global, store: &mut Store<Value>) -> Result<(), Fail> {
+fn fix(rt: &impl Abort, alloc: Global, store: &mut Store<Value>) {
     assert!(rt; store.next_fixed() <= 1);
-    store.fix_bytes(1, b"ab\0c")?;
+    store.fix_bytes(1, b"ab\0c").expect(rt, "memory");
     let cells = [Value::Integer(7), Value::Boolean(true), Value::Integer(-1)];
     assert!(rt; store.next_fixed() <= 3);
-    store.fix_cells(3, Items::from_slice(alloc, &cells)?)?;
+    store
+        .fix_cells(3, Items::from_slice(alloc, &cells).expect(rt, "memory"))
+        .expect(rt, "memory");
     assert!(rt; store.next_fixed() <= 4);
-    store.fix_bytes(4, b"")?;
-    Ok(())
+    store.fix_bytes(4, b"").expect(rt, "memory");
 }

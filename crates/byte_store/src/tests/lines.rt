@@ -1,29 +1,27 @@
 //! The line of each event, and a sink that fails in mid-stream.
 
-use crate::tests::fixture::{fixed, made};
+use crate::tests::fixture::{fixed, made, same, same_in};
 use crate::{Event, Pointer, Word, write_event};
 use ps_base::{Items, MemorySink, SinkFault};
 use std::alloc::Global;
 use std::process::Abort;
-use std::test::Fail;
 
 // A sink of at most four bytes a call. The calls of these numbers fail.
-fn sink(alloc: Global, failing: &[u64]) -> Result<MemorySink, Fail> {
-    let failing = Items::from_slice(alloc, failing)?;
-    Ok(MemorySink::new(alloc, 99, 4, failing)?)
+fn sink(rt: &impl Abort, alloc: Global, failing: &[u64]) -> MemorySink {
+    let failing = Items::from_slice(alloc, failing).expect(rt, "memory");
+    MemorySink::new(alloc, 99, 4, failing).expect(rt, "memory")
 }
 
-fn writes_lines(rt: &impl Abort, alloc: Global, cases: &[(Event, &[u8])]) -> Result<(), Fail> {
+fn writes_lines(rt: &impl Abort, alloc: Global, cases: &[(Event, &[u8])]) {
     for (event, line) in cases {
-        let mut out = sink(alloc, &[])?;
-        assert_eq!(rt; write_event(event, &mut out), Ok(()), "{event:?}");
-        assert_eq!(rt; out.bytes(), *line, "{event:?}");
+        let mut out = sink(rt, alloc, &[]);
+        same_in(rt, &event, write_event(event, &mut out), Ok(()));
+        same_in(rt, &event, out.bytes(), *line);
     }
-    Ok(())
 }
 
 #[test]
-fn writes_the_line_of_each_block(rt: HostRuntime) -> Result<(), Fail> {
+fn writes_the_line_of_each_block(rt: HostRuntime) {
     let null = Pointer::Null;
     let cases: &[(Event, &[u8])] = &[
         (Event::Allocate(16, made(0, 0)), b"alloc 16 d0\n"),
@@ -56,11 +54,11 @@ fn writes_the_line_of_each_block(rt: HostRuntime) -> Result<(), Fail> {
         (Event::Free(made(0, 4)), b"free d0+4\n"),
         (Event::Free(fixed(4294967295, -8)), b"free s4294967295+-8\n"),
     ];
-    writes_lines(&rt, rt.alloc(), cases)
+    writes_lines(&rt, rt.alloc(), cases);
 }
 
 #[test]
-fn writes_the_line_of_each_byte_and_cell(rt: HostRuntime) -> Result<(), Fail> {
+fn writes_the_line_of_each_byte_and_cell(rt: HostRuntime) {
     let null = Pointer::Null;
     let cases: &[(Event, &[u8])] = &[
         (Event::Input(65), b"in 65\n"),
@@ -91,11 +89,11 @@ fn writes_the_line_of_each_byte_and_cell(rt: HostRuntime) -> Result<(), Fail> {
         (Event::Length(fixed(1, 2), 5), b"length s1+2 5\n"),
         (Event::Length(null, 0), b"length null 0\n"),
     ];
-    writes_lines(&rt, rt.alloc(), cases)
+    writes_lines(&rt, rt.alloc(), cases);
 }
 
 #[test]
-fn writes_a_front_until_the_sink_fails(rt: HostRuntime) -> Result<(), Fail> {
+fn writes_a_front_until_the_sink_fails(rt: HostRuntime) {
     let fill = Event::Fill(3, Word::Number(7), made(0, 0));
     // The pieces are a word, and a blank and a number for each part. The line of the next event comes behind the front.
     let cases: &[(u64, &[u8])] = &[
@@ -106,10 +104,9 @@ fn writes_a_front_until_the_sink_fails(rt: HostRuntime) -> Result<(), Fail> {
         (9, b"vector 3 7 d0out 65\n"),
     ];
     for (failing, lines) in cases {
-        let mut out = sink(rt.alloc(), &[*failing])?;
-        assert_eq!(rt; write_event(&fill, &mut out), Err(SinkFault));
-        assert_eq!(rt; write_event(&Event::Output(65), &mut out), Ok(()));
-        assert_eq!(rt; out.bytes(), *lines, "call {failing} fails");
+        let mut out = sink(&rt, rt.alloc(), &[*failing]);
+        same(&rt, write_event(&fill, &mut out), Err(SinkFault));
+        same(&rt, write_event(&Event::Output(65), &mut out), Ok(()));
+        same_in(&rt, &failing, out.bytes(), *lines);
     }
-    Ok(())
 }

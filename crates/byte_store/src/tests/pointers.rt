@@ -1,13 +1,12 @@
 //! Pointers that are moved and compared.
 
 use crate::Pointer::Null;
-use crate::tests::fixture::{blocks, fixed, made};
+use crate::tests::fixture::{blocks, fixed, made, same, same_in};
 use ps_base::Op::{Blocks, Bounds, Freed};
-use std::test::Fail;
 
 #[test]
-fn pointers_move_up_to_the_end(rt: HostRuntime) -> Result<(), Fail> {
-    let store = blocks(&rt, rt.alloc())?;
+fn pointers_move_up_to_the_end(rt: HostRuntime) {
+    let store = blocks(&rt, rt.alloc());
     let cases = [
         (Null, 0, Err(Bounds)),
         (Null, 1, Err(Bounds)),
@@ -34,14 +33,13 @@ fn pointers_move_up_to_the_end(rt: HostRuntime) -> Result<(), Fail> {
         (fixed(4, 0), 1, Err(Bounds)),
     ];
     for (p, by, want) in cases {
-        assert_eq!(rt; store.move_by(p, by), want, "{p:?} {by}");
+        same_in(&rt, &(p, by), store.move_by(p, by), want);
     }
-    Ok(())
 }
 
 #[test]
-fn distance_and_order_have_one_block(rt: HostRuntime) -> Result<(), Fail> {
-    let store = blocks(&rt, rt.alloc())?;
+fn distance_and_order_have_one_block(rt: HostRuntime) {
+    let store = blocks(&rt, rt.alloc());
     let causes = [
         (Null, Null, Bounds),
         (Null, made(0, 0), Bounds),
@@ -59,8 +57,8 @@ fn distance_and_order_have_one_block(rt: HostRuntime) -> Result<(), Fail> {
         (made(0, 12), made(1, 0), Blocks),
     ];
     for (p, q, op) in causes {
-        assert_eq!(rt; store.difference(p, q), Err(op), "{p:?} {q:?}");
-        assert_eq!(rt; store.before(p, q), Err(op), "{p:?} {q:?}");
+        same_in(&rt, &(p, q), store.difference(p, q), Err(op));
+        same_in(&rt, &(p, q), store.before(p, q), Err(op));
     }
     let cases = [
         (made(0, 7), made(0, 3), Ok(4), false),
@@ -74,15 +72,14 @@ fn distance_and_order_have_one_block(rt: HostRuntime) -> Result<(), Fail> {
         (made(0, i64::MAX), made(0, -1), Err(Bounds), false),
     ];
     for (p, q, difference, before) in cases {
-        assert_eq!(rt; store.difference(p, q), difference, "{p:?} {q:?}");
-        assert_eq!(rt; store.before(p, q), Ok(before), "{p:?} {q:?}");
+        same_in(&rt, &(p, q), store.difference(p, q), difference);
+        same_in(&rt, &(p, q), store.before(p, q), Ok(before));
     }
-    Ok(())
 }
 
 #[test]
-fn the_same_place(rt: HostRuntime) -> Result<(), Fail> {
-    let store = blocks(&rt, rt.alloc())?;
+fn the_same_place(rt: HostRuntime) {
+    let store = blocks(&rt, rt.alloc());
     // The one place of the empty fixed block 4 is its end.
     let cases = [
         (Null, Null, Ok(true)),
@@ -112,15 +109,14 @@ fn the_same_place(rt: HostRuntime) -> Result<(), Fail> {
         (fixed(4, 0), fixed(4, 0), Ok(true)),
     ];
     for (p, q, want) in cases {
-        assert_eq!(rt; store.same(p, q), want, "{p:?} {q:?}");
-        assert_eq!(rt; store.same(q, p), want, "{q:?} {p:?}");
+        same_in(&rt, &(p, q), store.same(p, q), want);
+        same_in(&rt, &(q, p), store.same(q, p), want);
     }
-    Ok(())
 }
 
 #[test]
-fn null_pointers(rt: HostRuntime) -> Result<(), Fail> {
-    let store = blocks(&rt, rt.alloc())?;
+fn null_pointers(rt: HostRuntime) {
+    let store = blocks(&rt, rt.alloc());
     let cases = [
         (Null, Ok(true)),
         (made(0, 0), Ok(false)),
@@ -132,7 +128,6 @@ fn null_pointers(rt: HostRuntime) -> Result<(), Fail> {
         (made(3, 2), Err(Freed)),
     ];
     for (p, want) in cases {
-        assert_eq!(rt; store.is_null(p), want, "{p:?}");
+        same_in(&rt, &p, store.is_null(p), want);
     }
-    Ok(())
 }

@@ -2,32 +2,31 @@
 
 use crate::Pointer::Null;
 use crate::tests::accesses::no_access;
-use crate::tests::fixture::{blocks, fixed, made};
+use crate::tests::fixture::{blocks, fixed, made, same, same_in};
 use crate::{Pointer, Store, Value};
 use ps_base::Op::{Bounds, Freed};
 use std::process::Abort;
-use std::test::Fail;
 
 // Each access and each operation on a pointer into a freed block is told so.
 fn freed(rt: &impl Abort, store: &mut Store<Value>, p: Pointer) {
     no_access(rt, store, p, Freed);
-    assert_eq!(rt; store.move_by(p, 0), Err(Freed));
-    assert_eq!(rt; store.is_null(p), Err(Freed));
+    same(rt, store.move_by(p, 0), Err(Freed));
+    same(rt, store.is_null(p), Err(Freed));
     for q in [p, fixed(1, 0), made(2, 0)] {
-        assert_eq!(rt; store.difference(p, q), Err(Freed));
-        assert_eq!(rt; store.difference(q, p), Err(Freed));
-        assert_eq!(rt; store.before(p, q), Err(Freed));
-        assert_eq!(rt; store.before(q, p), Err(Freed));
-        assert_eq!(rt; store.same(p, q), Err(Freed));
-        assert_eq!(rt; store.same(q, p), Err(Freed));
+        same(rt, store.difference(p, q), Err(Freed));
+        same(rt, store.difference(q, p), Err(Freed));
+        same(rt, store.before(p, q), Err(Freed));
+        same(rt, store.before(q, p), Err(Freed));
+        same(rt, store.same(p, q), Err(Freed));
+        same(rt, store.same(q, p), Err(Freed));
     }
-    assert_eq!(rt; store.same(p, Null), Err(Freed));
-    assert_eq!(rt; store.same(Null, p), Err(Freed));
+    same(rt, store.same(p, Null), Err(Freed));
+    same(rt, store.same(Null, p), Err(Freed));
 }
 
 #[test]
-fn blocks_are_freed_once_at_their_start(rt: HostRuntime) -> Result<(), Fail> {
-    let mut store = blocks(&rt, rt.alloc())?;
+fn blocks_are_freed_once_at_their_start(rt: HostRuntime) {
+    let mut store = blocks(&rt, rt.alloc());
     let cases = [
         (Null, Err(Bounds)),
         (fixed(1, 0), Err(Bounds)),
@@ -49,7 +48,7 @@ fn blocks_are_freed_once_at_their_start(rt: HostRuntime) -> Result<(), Fail> {
         (made(1, 0), Err(Freed)),
     ];
     for (p, want) in cases {
-        assert_eq!(rt; store.release(p), want, "{p:?}");
+        same_in(&rt, &p, store.release(p), want);
     }
     for p in [
         made(0, 0),
@@ -61,7 +60,6 @@ fn blocks_are_freed_once_at_their_start(rt: HostRuntime) -> Result<(), Fail> {
     ] {
         freed(&rt, &mut store, p);
     }
-    assert_eq!(rt; store.load(fixed(1, 0)), Ok(97));
-    assert_eq!(rt; store.get(fixed(3, 0), 0), Ok(Value::Integer(7)));
-    Ok(())
+    same(&rt, store.load(fixed(1, 0)), Ok(97));
+    same(&rt, store.get(fixed(3, 0), 0), Ok(Value::Integer(7)));
 }

@@ -1,30 +1,32 @@
 //! Strings, which end before a byte 0.
 
-use crate::tests::fixture::{blocks, fixed, made, make_bytes, world_of};
+use crate::tests::fixture::{blocks, fixed, made, make_bytes, same_in, world_of};
 use crate::{Pointer, Store, StoreFault, Value};
 use ps_base::Op::{self, Bounds, Freed, Unset};
 use std::alloc::Global;
-use std::test::Fail;
+use std::process::Abort;
 
 // A byte that is not set.
 const NONE: i64 = -1;
 
 // A store whose made block 0 has these bytes.
-fn store_of(alloc: Global, bytes: &[i64]) -> Result<Store<Value>, Fail> {
+fn store_of(rt: &impl Abort, alloc: Global, bytes: &[i64]) -> Store<Value> {
     let mut store = Store::new(alloc);
-    let mut world = world_of(alloc, &[true])?;
-    let size = i64::try_from(bytes.len())?;
-    let _start = make_bytes(&mut store, &mut world, size)?;
+    let mut world = world_of(rt, alloc, &[true]);
+    let size = i64::try_from(bytes.len()).expect(rt, "memory");
+    let _start = make_bytes(&mut store, &mut world, size).expect(rt, "an answer");
     for (offset, byte) in (0..size).zip(bytes) {
         if *byte != NONE {
-            store.set_byte(made(0, offset), *byte)?;
+            store
+                .set_byte(made(0, offset), *byte)
+                .expect(rt, "an answer");
         }
     }
-    Ok(store)
+    store
 }
 
 #[test]
-fn texts_have_a_length(rt: HostRuntime) -> Result<(), Fail> {
+fn texts_have_a_length(rt: HostRuntime) {
     let cases: &[(&[i64], i64, Result<i64, Op>)] = &[
         (&[104, 105, 0], 0, Ok(2)),
         (&[104, 105, 0], 1, Ok(1)),
@@ -48,18 +50,18 @@ fn texts_have_a_length(rt: HostRuntime) -> Result<(), Fail> {
         (&[104, NONE], 0, Err(Unset)),
     ];
     for (bytes, offset, want) in cases {
-        let store = store_of(rt.alloc(), bytes)?;
-        assert_eq!(rt;
+        let store = store_of(&rt, rt.alloc(), bytes);
+        same_in(
+            &rt,
+            &(bytes, offset),
             store.text_length(made(0, *offset)),
             *want,
-            "{bytes:?} {offset}"
         );
     }
-    Ok(())
 }
 
 #[test]
-fn bytes_of_texts(rt: HostRuntime) -> Result<(), Fail> {
+fn bytes_of_texts(rt: HostRuntime) {
     let cases: &[(&[i64], i64, i64, Result<i64, Op>)] = &[
         (&[104, 105, 0], 0, 0, Ok(104)),
         (&[104, 105, 0], 0, 1, Ok(105)),
@@ -81,19 +83,19 @@ fn bytes_of_texts(rt: HostRuntime) -> Result<(), Fail> {
         (&[104, NONE, 0], 0, 3, Err(Unset)),
     ];
     for (bytes, offset, at, want) in cases {
-        let store = store_of(rt.alloc(), bytes)?;
-        assert_eq!(rt;
+        let store = store_of(&rt, rt.alloc(), bytes);
+        same_in(
+            &rt,
+            &(bytes, offset, at),
             store.text_at(made(0, *offset), *at),
             *want,
-            "{bytes:?} {offset} {at}"
         );
     }
-    Ok(())
 }
 
 #[test]
-fn bytes_of_texts_of_other_blocks(rt: HostRuntime) -> Result<(), Fail> {
-    let store = blocks(&rt, rt.alloc())?;
+fn bytes_of_texts_of_other_blocks(rt: HostRuntime) {
+    let store = blocks(&rt, rt.alloc());
     let cases = [
         (fixed(1, 0), 1, Ok(98)),
         (fixed(1, 3), 0, Err(Bounds)),
@@ -102,18 +104,17 @@ fn bytes_of_texts_of_other_blocks(rt: HostRuntime) -> Result<(), Fail> {
         (Pointer::Null, 0, Err(Bounds)),
     ];
     for (p, at, want) in cases {
-        assert_eq!(rt; store.text_at(p, at), want, "{p:?} {at}");
+        same_in(&rt, &(p, at), store.text_at(p, at), want);
     }
-    Ok(())
 }
 
 #[test]
-fn copies_of_texts(rt: HostRuntime) -> Result<(), Fail> {
+fn copies_of_texts(rt: HostRuntime) {
     let alloc = rt.alloc();
-    let store = store_of(alloc, &[104, 105, 0, NONE])?;
+    let store = store_of(&rt, alloc, &[104, 105, 0, NONE]);
     for (offset, want) in [(0, b"hi".as_slice()), (1, b"i"), (2, b"")] {
-        let copy = store.text(alloc, made(0, offset))?;
-        assert_eq!(rt; copy.as_slice(), want, "{offset}");
+        let copy = store.text(alloc, made(0, offset)).expect(&rt, "memory");
+        same_in(&rt, &offset, copy.as_slice(), want);
     }
     for (p, cause) in [
         (made(0, 3), Unset),
@@ -122,8 +123,7 @@ fn copies_of_texts(rt: HostRuntime) -> Result<(), Fail> {
     ] {
         match store.text(alloc, p) {
             Ok(_) => assert!(rt; false, "{p:?}"),
-            Err(fault) => assert_eq!(rt; fault, StoreFault::Undefined(cause), "{p:?}"),
+            Err(fault) => same_in(&rt, &p, fault, StoreFault::Undefined(cause)),
         }
     }
-    Ok(())
 }

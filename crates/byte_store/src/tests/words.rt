@@ -1,12 +1,11 @@
 //! Words of eight bytes.
 
-use crate::tests::fixture::{blocks, fixed, made};
+use crate::tests::fixture::{blocks, fixed, made, same, same_in};
 use ps_base::Op::{Bounds, Unset};
-use std::test::Fail;
 
 #[test]
-fn words_are_wholly_inside(rt: HostRuntime) -> Result<(), Fail> {
-    let mut store = blocks(&rt, rt.alloc())?;
+fn words_are_wholly_inside(rt: HostRuntime) {
+    let mut store = blocks(&rt, rt.alloc());
     // Of the word at 1 only the eighth byte was not set. The eighth byte of that at 5 is one past the end.
     let loads = [
         (made(0, 0), Ok(0x0102030405060708)),
@@ -20,7 +19,7 @@ fn words_are_wholly_inside(rt: HostRuntime) -> Result<(), Fail> {
         (fixed(1, 0), Err(Bounds)),
     ];
     for (p, want) in loads {
-        assert_eq!(rt; store.load_word(p), want, "{p:?}");
+        same_in(&rt, &p, store.load_word(p), want);
     }
     let keeps = [
         (made(0, 5), Err(Bounds)),
@@ -32,20 +31,19 @@ fn words_are_wholly_inside(rt: HostRuntime) -> Result<(), Fail> {
         (made(0, 4), Ok(())),
     ];
     for (p, want) in keeps {
-        assert_eq!(rt; store.set_word(p, -1), want, "{p:?}");
+        same_in(&rt, &p, store.set_word(p, -1), want);
     }
     // The words that were refused wrote no part.
     let bytes = [(0, 8), (3, 5), (4, 255), (11, 255)];
     for (offset, byte) in bytes {
-        assert_eq!(rt; store.load(made(0, offset)), Ok(byte), "{offset}");
+        same_in(&rt, &offset, store.load(made(0, offset)), Ok(byte));
     }
-    assert_eq!(rt; store.load(fixed(1, 0)), Ok(97));
-    Ok(())
+    same(&rt, store.load(fixed(1, 0)), Ok(97));
 }
 
 #[test]
-fn the_lowest_byte_comes_first(rt: HostRuntime) -> Result<(), Fail> {
-    let mut store = blocks(&rt, rt.alloc())?;
+fn the_lowest_byte_comes_first(rt: HostRuntime) {
+    let mut store = blocks(&rt, rt.alloc());
     let cases = [
         (0x0102030405060708, [8, 7, 6, 5, 4, 3, 2, 1]),
         (-1, [255, 255, 255, 255, 255, 255, 255, 255]),
@@ -56,14 +54,14 @@ fn the_lowest_byte_comes_first(rt: HostRuntime) -> Result<(), Fail> {
         (0, [0, 0, 0, 0, 0, 0, 0, 0]),
     ];
     for (word, bytes) in cases {
-        assert_eq!(rt; store.set_word(made(0, 3), word), Ok(()));
-        assert_eq!(rt; store.load_word(made(0, 3)), Ok(word));
+        same(&rt, store.set_word(made(0, 3), word), Ok(()));
+        same(&rt, store.load_word(made(0, 3)), Ok(word));
         for (offset, byte) in (3..11).zip(bytes) {
-            assert_eq!(rt; store.load(made(0, offset)), Ok(byte), "{word} {offset}");
+            same_in(&rt, &(word, offset), store.load(made(0, offset)), Ok(byte));
         }
     }
-    assert_eq!(rt; store.load(made(0, 2)), Ok(6));
-    assert_eq!(rt; store.load(made(0, 11)), Err(Unset));
+    same(&rt, store.load(made(0, 2)), Ok(6));
+    same(&rt, store.load(made(0, 11)), Err(Unset));
     // A word that is put byte by byte.
     for (offset, byte) in [
         (3, 8),
@@ -75,8 +73,7 @@ fn the_lowest_byte_comes_first(rt: HostRuntime) -> Result<(), Fail> {
         (9, 2),
         (10, 1),
     ] {
-        assert_eq!(rt; store.set_byte(made(0, offset), byte), Ok(()));
+        same(&rt, store.set_byte(made(0, offset), byte), Ok(()));
     }
-    assert_eq!(rt; store.load_word(made(0, 3)), Ok(0x0102030405060708));
-    Ok(())
+    same(&rt, store.load_word(made(0, 3)), Ok(0x0102030405060708));
 }

@@ -1,14 +1,14 @@
 //! The input and the grants of a world.
 
 use crate::World;
+use crate::tests::fixture::same;
 use ps_base::Items;
-use std::test::Fail;
 
 #[test]
-fn input_and_grants_come_to_an_end(rt: HostRuntime) -> Result<(), Fail> {
+fn input_and_grants_come_to_an_end(rt: HostRuntime) {
     let alloc = rt.alloc();
-    let input = Items::from_slice(alloc, &[0, 104, 255])?;
-    let grants = Items::from_slice(alloc, &[true, false, true])?;
+    let input = Items::from_slice(alloc, &[0, 104, 255]).expect(&rt, "memory");
+    let grants = Items::from_slice(alloc, &[true, false, true]).expect(&rt, "memory");
     let mut world = World::new(input, grants);
     let cases = [
         (0, true),
@@ -19,16 +19,16 @@ fn input_and_grants_come_to_an_end(rt: HostRuntime) -> Result<(), Fail> {
     ];
     for (byte, grant) in cases {
         // What is only told is told again.
-        assert_eq!(rt; (world.peek(), world.granted()), (byte, grant));
-        assert_eq!(rt; (world.peek(), world.granted()), (byte, grant));
-        assert_eq!(rt; world.read(), byte);
-        assert_eq!(rt; world.granted(), grant);
+        same(&rt, (world.peek(), world.granted()), (byte, grant));
+        same(&rt, (world.peek(), world.granted()), (byte, grant));
+        same(&rt, world.read(), byte);
+        same(&rt, world.granted(), grant);
         world.use_grant();
     }
     let mut empty = World::new(Items::new(alloc), Items::new(alloc));
-    assert_eq!(rt;
+    same(
+        &rt,
         (empty.peek(), empty.read(), empty.granted()),
-        (-1, -1, false)
+        (-1, -1, false),
     );
-    Ok(())
 }

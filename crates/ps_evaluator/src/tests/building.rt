@@ -2,15 +2,25 @@
 
 use crate::{Ended, Evaluated, evaluate};
 use byte_store::{Event, Store, Value, World};
-use ps_base::{Boxed, Items, NoMemory, Place, Prim};
+use ps_base::{Boxed, Items, Place, Prim};
 use ps_kernel::{
     Constant, Definitions, Expr, ExprKind, Exprs, Form, Forms, Group, GroupEntry, Kernel, Lambda,
     Lambdas, Literals, Operation,
 };
 use ps_types::Kinds;
 use std::alloc::Global;
+use std::fmt::Debug;
 use std::process::Abort;
-use std::test::Fail;
+
+/// What was got is what is wanted.
+pub fn same<T: PartialEq + Debug + Drop>(rt: &impl Abort, got: T, want: T) {
+    assert_eq!(rt; got, want);
+}
+
+/// The same, in a case of several.
+pub fn same_in<T: PartialEq + Debug + Drop>(rt: &impl Abort, case: &impl Debug, got: T, want: T) {
+    assert_eq!(rt; got, want, "{case:?}");
+}
 
 /// A place in the only line.
 pub fn at(column: u32) -> Place {
@@ -49,22 +59,22 @@ pub fn quoted(q: u32) -> Expr {
     node(5, ExprKind::Constant(Constant::Quoted(q)))
 }
 
-pub fn one(alloc: Global, a: Expr) -> Result<Exprs, NoMemory> {
-    let mut es = Items::new(alloc);
-    es.push(a)?;
-    Ok(es)
+pub fn one(rt: &(impl Abort + Alloc<A = Global>), a: Expr) -> Exprs {
+    let mut es = Items::new(rt.alloc());
+    es.push(a).expect(rt, "memory");
+    es
 }
 
-pub fn two(alloc: Global, a: Expr, b: Expr) -> Result<Exprs, NoMemory> {
-    let mut es = one(alloc, a)?;
-    es.push(b)?;
-    Ok(es)
+pub fn two(rt: &(impl Abort + Alloc<A = Global>), a: Expr, b: Expr) -> Exprs {
+    let mut es = one(rt, a);
+    es.push(b).expect(rt, "memory");
+    es
 }
 
-pub fn three(alloc: Global, a: Expr, b: Expr, c: Expr) -> Result<Exprs, NoMemory> {
-    let mut es = two(alloc, a, b)?;
-    es.push(c)?;
-    Ok(es)
+pub fn three(rt: &(impl Abort + Alloc<A = Global>), a: Expr, b: Expr, c: Expr) -> Exprs {
+    let mut es = two(rt, a, b);
+    es.push(c).expect(rt, "memory");
+    es
 }
 
 /// A primitive at a place, with these operands.
@@ -73,113 +83,116 @@ pub fn primitive(column: u32, p: Prim, es: Exprs) -> Expr {
 }
 
 /// A primitive of one operand.
-pub fn prim_1(alloc: Global, p: Prim, a: Expr) -> Result<Expr, NoMemory> {
-    Ok(primitive(6, p, one(alloc, a)?))
+pub fn prim_1(rt: &(impl Abort + Alloc<A = Global>), p: Prim, a: Expr) -> Expr {
+    primitive(6, p, one(rt, a))
 }
 
 /// A primitive of two operands.
-pub fn prim_2(alloc: Global, p: Prim, a: Expr, b: Expr) -> Result<Expr, NoMemory> {
-    Ok(primitive(7, p, two(alloc, a, b)?))
+pub fn prim_2(rt: &(impl Abort + Alloc<A = Global>), p: Prim, a: Expr, b: Expr) -> Expr {
+    primitive(7, p, two(rt, a, b))
 }
 
 /// `(if (= a b) c d)`
-pub fn if_equal(alloc: Global, a: Expr, b: Expr, c: Expr, d: Expr) -> Result<Expr, NoMemory> {
-    choice(alloc, prim_2(alloc, Prim::Equal, a, b)?, c, d)
+pub fn if_equal(rt: &(impl Abort + Alloc<A = Global>), a: Expr, b: Expr, c: Expr, d: Expr) -> Expr {
+    choice(rt, prim_2(rt, Prim::Equal, a, b), c, d)
 }
 
-pub fn choice(alloc: Global, a: Expr, b: Expr, c: Expr) -> Result<Expr, NoMemory> {
-    let a = Boxed::new(alloc, a)?;
-    let b = Boxed::new(alloc, b)?;
-    let c = Boxed::new(alloc, c)?;
-    Ok(node(8, ExprKind::If(a, b, c)))
+pub fn choice(rt: &(impl Abort + Alloc<A = Global>), a: Expr, b: Expr, c: Expr) -> Expr {
+    let a = Boxed::new(rt.alloc(), a).expect(rt, "memory");
+    let b = Boxed::new(rt.alloc(), b).expect(rt, "memory");
+    let c = Boxed::new(rt.alloc(), c).expect(rt, "memory");
+    node(8, ExprKind::If(a, b, c))
 }
 
-pub fn let_in(alloc: Global, x: u32, a: Expr, b: Expr) -> Result<Expr, NoMemory> {
-    let a = Boxed::new(alloc, a)?;
-    let b = Boxed::new(alloc, b)?;
-    Ok(node(9, ExprKind::Let(x, a, b)))
+pub fn let_in(rt: &(impl Abort + Alloc<A = Global>), x: u32, a: Expr, b: Expr) -> Expr {
+    let a = Boxed::new(rt.alloc(), a).expect(rt, "memory");
+    let b = Boxed::new(rt.alloc(), b).expect(rt, "memory");
+    node(9, ExprKind::Let(x, a, b))
 }
 
 /// Locals that stand for lambdas.
-pub fn letrec(alloc: Global, entries: &[(u32, u32)], b: Expr) -> Result<Expr, NoMemory> {
-    let mut group: Group = Items::new(alloc);
+pub fn letrec(rt: &(impl Abort + Alloc<A = Global>), entries: &[(u32, u32)], b: Expr) -> Expr {
+    let mut group: Group = Items::new(rt.alloc());
     for (local, lambda) in entries {
-        group.push(GroupEntry {
-            local: *local,
-            lambda: *lambda,
-        })?;
+        group
+            .push(GroupEntry {
+                local: *local,
+                lambda: *lambda,
+            })
+            .expect(rt, "memory");
     }
-    let b = Boxed::new(alloc, b)?;
-    Ok(node(10, ExprKind::Letrec(group, b)))
+    let b = Boxed::new(rt.alloc(), b).expect(rt, "memory");
+    node(10, ExprKind::Letrec(group, b))
 }
 
-pub fn assignment(alloc: Global, g: u32, a: Expr) -> Result<Expr, NoMemory> {
-    let a = Boxed::new(alloc, a)?;
-    Ok(node(11, ExprKind::SetGlobal(g, a)))
+pub fn assignment(rt: &(impl Abort + Alloc<A = Global>), g: u32, a: Expr) -> Expr {
+    let a = Boxed::new(rt.alloc(), a).expect(rt, "memory");
+    node(11, ExprKind::SetGlobal(g, a))
 }
 
 /// A call that nests, at a place.
-pub fn call(alloc: Global, column: u32, f: Expr, es: Exprs) -> Result<Expr, NoMemory> {
-    let f = Boxed::new(alloc, f)?;
-    Ok(node(column, ExprKind::Call(f, es)))
+pub fn call(rt: &(impl Abort + Alloc<A = Global>), column: u32, f: Expr, es: Exprs) -> Expr {
+    let f = Boxed::new(rt.alloc(), f).expect(rt, "memory");
+    node(column, ExprKind::Call(f, es))
 }
 
 /// A call that takes the place of the procedure in which it stands.
-pub fn proper(alloc: Global, f: Expr, es: Exprs) -> Result<Expr, NoMemory> {
-    let f = Boxed::new(alloc, f)?;
-    Ok(node(12, ExprKind::ProperCall(f, es)))
+pub fn proper(rt: &(impl Abort + Alloc<A = Global>), f: Expr, es: Exprs) -> Expr {
+    let f = Boxed::new(rt.alloc(), f).expect(rt, "memory");
+    node(12, ExprKind::ProperCall(f, es))
 }
 
 /// Adds a lambda at a place, with its parameters and the locals that its procedure keeps.
 pub fn add_lambda(
-    alloc: Global,
+    rt: &(impl Abort + Alloc<A = Global>),
     lambdas: &mut Lambdas,
     column: u32,
     parameters: &[u32],
     captured: &[u32],
     body: Expr,
-) -> Result<(), NoMemory> {
-    lambdas.push(Lambda {
-        place: at(column),
-        parameters: Items::from_slice(alloc, parameters)?,
-        captured: Items::from_slice(alloc, captured)?,
-        body,
-    })?;
-    Ok(())
+) {
+    lambdas
+        .push(Lambda {
+            place: at(column),
+            parameters: Items::from_slice(rt.alloc(), parameters).expect(rt, "memory"),
+            captured: Items::from_slice(rt.alloc(), captured).expect(rt, "memory"),
+            body,
+        })
+        .expect(rt, "memory");
 }
 
 /// A kernel without literals: its first definitions are no procedures, and behind them stand those of these lambdas, of which
 /// the last is `main`.
 pub fn kernel(
-    alloc: Global,
+    rt: &(impl Abort + Alloc<A = Global>),
     lambdas: Lambdas,
     values: u32,
     procedures: &[u32],
-) -> Result<Kernel, NoMemory> {
-    let mut forms: Forms = Items::new(alloc);
+) -> Kernel {
+    let mut forms: Forms = Items::new(rt.alloc());
     for g in 0..values {
-        forms.push(Form::Define(g, int(0)))?;
+        forms.push(Form::Define(g, int(0))).expect(rt, "memory");
     }
     let mut g = values;
     for l in procedures {
-        forms.push(Form::Define(g, lambda(*l)))?;
+        forms.push(Form::Define(g, lambda(*l))).expect(rt, "memory");
         g = g.saturating_add(1);
     }
-    Ok(Kernel {
-        definitions: Definitions::new(alloc),
+    Kernel {
+        definitions: Definitions::new(rt.alloc()),
         lambdas,
-        literals: Literals::new(alloc),
-        kinds: Kinds::new(alloc),
+        literals: Literals::new(rt.alloc()),
+        kinds: Kinds::new(rt.alloc()),
         forms,
         main: g.saturating_sub(1),
-    })
+    }
 }
 
 /// A kernel whose `main` has this body, and which has no other lambdas.
-pub fn only_main(alloc: Global, body: Expr) -> Result<Kernel, NoMemory> {
-    let mut lambdas = Items::new(alloc);
-    add_lambda(alloc, &mut lambdas, 50, &[], &[], body)?;
-    kernel(alloc, lambdas, 0, &[0])
+pub fn only_main(rt: &(impl Abort + Alloc<A = Global>), body: Expr) -> Kernel {
+    let mut lambdas = Items::new(rt.alloc());
+    add_lambda(rt, &mut lambdas, 50, &[], &[], body);
+    kernel(rt, lambdas, 0, &[0])
 }
 
 /// What a program is run in.
@@ -203,53 +216,54 @@ pub fn bare(calls: u64) -> Setting<'static> {
 
 /// The program has this end, this depth and these events.
 pub fn comes_to(
-    rt: &impl Abort,
-    alloc: Global,
+    rt: &(impl Abort + Alloc<A = Global>),
     kernel: &Kernel,
     store: Store<Value>,
     setting: &Setting,
     end: Ended,
     depth: u64,
     events: &[Event],
-) -> Result<(), Fail> {
-    let input = Items::from_slice(alloc, setting.input)?;
-    let world = World::new(input, Items::from_slice(alloc, setting.grants)?);
+) {
+    let input = Items::from_slice(rt.alloc(), setting.input).expect(rt, "memory");
+    let world = World::new(
+        input,
+        Items::from_slice(rt.alloc(), setting.grants).expect(rt, "memory"),
+    );
     match evaluate(
-        alloc,
+        rt.alloc(),
         kernel,
         setting.globals,
         store,
         world,
         setting.calls,
         10_000_000,
-    )? {
+    )
+    .expect(rt, "memory")
+    {
         Evaluated::Finished(finish) => {
-            assert_eq!(rt; finish.end, end);
-            assert_eq!(rt; finish.depth, depth);
-            assert_eq!(rt; finish.events.as_slice(), events);
+            same(rt, finish.end, end);
+            same(rt, finish.depth, depth);
+            same(rt, finish.events.as_slice(), events);
         }
         other => panic!(rt; "{other:?}"),
     }
-    Ok(())
 }
 
 /// A program without memory comes to this.
 pub fn ends(
-    rt: &impl Abort,
-    alloc: Global,
+    rt: &(impl Abort + Alloc<A = Global>),
     kernel: &Kernel,
     calls: u64,
     end: Ended,
     depth: u64,
-) -> Result<(), Fail> {
+) {
     comes_to(
         rt,
-        alloc,
         kernel,
-        Store::new(alloc),
+        Store::new(rt.alloc()),
         &bare(calls),
         end,
         depth,
         &[],
-    )
+    );
 }

@@ -1,16 +1,15 @@
 //! Primitives that change the memory, at run time.
 
-use crate::tests::fixture::{fixed, looks, made, run};
+use crate::tests::fixture::{fixed, looks, made, run, same, same_in};
 use byte_store::Event::{Free, Keep, KeepWord, Put};
 use byte_store::Pointer::Null;
 use byte_store::Value::{Address, Boolean, Char, Integer, Text, Unit, Vector};
 use byte_store::Word;
 use ps_base::Op::{Bounds, Byte, Freed};
 use ps_base::PrimName::*;
-use std::test::Fail;
 
 #[test]
-fn cells_are_put(rt: HostRuntime) -> Result<(), Fail> {
+fn cells_are_put(rt: HostRuntime) {
     let alloc = rt.alloc();
     // Each value is seen as its word.
     let cases = [
@@ -28,8 +27,8 @@ fn cells_are_put(rt: HostRuntime) -> Result<(), Fail> {
     ];
     for (p, at, value, q, word) in cases {
         let args = [Vector(p), Integer(at), value];
-        let scene = run(&rt, alloc, VectorSet, &args, Ok(Unit), &[Put(q, word)])?;
-        assert_eq!(rt; scene.store.get(q, 0), Ok(value));
+        let scene = run(&rt, alloc, VectorSet, &args, Ok(Unit), &[Put(q, word)]);
+        same(&rt, scene.store.get(q, 0), Ok(value));
     }
     let causes = [
         (made(1, 0), 2, Bounds),
@@ -41,19 +40,18 @@ fn cells_are_put(rt: HostRuntime) -> Result<(), Fail> {
     ];
     for (p, at, op) in causes {
         let args = [Vector(p), Integer(at), Unit];
-        looks(&rt, alloc, VectorSet, &args, Err(op), &[])?;
+        looks(&rt, alloc, VectorSet, &args, Err(op), &[]);
     }
-    Ok(())
 }
 
 #[test]
-fn bytes_are_put(rt: HostRuntime) -> Result<(), Fail> {
+fn bytes_are_put(rt: HostRuntime) {
     let alloc = rt.alloc();
     for (p, byte) in [(made(0, 8), 255), (made(0, 0), 0), (fixed(2, 1), 1)] {
         let args = [Address(p), Integer(byte)];
         let told = [Keep(p, byte)];
-        let scene = run(&rt, alloc, UnsignedByteSet, &args, Ok(Unit), &told)?;
-        assert_eq!(rt; scene.store.load(p), Ok(byte));
+        let scene = run(&rt, alloc, UnsignedByteSet, &args, Ok(Unit), &told);
+        same(&rt, scene.store.load(p), Ok(byte));
     }
     // What is no byte is told first.
     let causes = [
@@ -68,22 +66,21 @@ fn bytes_are_put(rt: HostRuntime) -> Result<(), Fail> {
     ];
     for (p, byte, op) in causes {
         let args = [Address(p), Integer(byte)];
-        looks(&rt, alloc, UnsignedByteSet, &args, Err(op), &[])?;
+        looks(&rt, alloc, UnsignedByteSet, &args, Err(op), &[]);
     }
-    Ok(())
 }
 
 #[test]
-fn words_are_put(rt: HostRuntime) -> Result<(), Fail> {
+fn words_are_put(rt: HostRuntime) {
     let alloc = rt.alloc();
     // -2 is 254 in its lowest byte, which comes first.
     let args = [Address(made(0, 1)), Integer(-2)];
     let told = [KeepWord(made(0, 1), -2)];
-    let scene = run(&rt, alloc, WordSet, &args, Ok(Unit), &told)?;
+    let scene = run(&rt, alloc, WordSet, &args, Ok(Unit), &told);
     for (offset, byte) in [(0, 8), (1, 254), (2, 255), (8, 255)] {
-        assert_eq!(rt; scene.store.load(made(0, offset)), Ok(byte), "{offset}");
+        same_in(&rt, &offset, scene.store.load(made(0, offset)), Ok(byte));
     }
-    assert_eq!(rt; scene.store.load_word(made(0, 1)), Ok(-2));
+    same(&rt, scene.store.load_word(made(0, 1)), Ok(-2));
     let causes = [
         (made(0, 2), Bounds),
         (made(0, -1), Bounds),
@@ -92,13 +89,12 @@ fn words_are_put(rt: HostRuntime) -> Result<(), Fail> {
         (Null, Bounds),
     ];
     for (p, op) in causes {
-        looks(&rt, alloc, WordSet, &[Address(p), Integer(7)], Err(op), &[])?;
+        looks(&rt, alloc, WordSet, &[Address(p), Integer(7)], Err(op), &[]);
     }
-    Ok(())
 }
 
 #[test]
-fn blocks_are_freed(rt: HostRuntime) -> Result<(), Fail> {
+fn blocks_are_freed(rt: HostRuntime) {
     let alloc = rt.alloc();
     let (bytes, cells) = (made(0, 0), made(1, 0));
     let args = [Address(bytes)];
@@ -109,9 +105,9 @@ fn blocks_are_freed(rt: HostRuntime) -> Result<(), Fail> {
         &args,
         Ok(Unit),
         &[Free(bytes)],
-    )?;
-    assert_eq!(rt; scene.store.load(bytes), Err(Freed));
-    assert_eq!(rt; scene.store.get(cells, 0), Ok(Char(65)));
+    );
+    same(&rt, scene.store.load(bytes), Err(Freed));
+    same(&rt, scene.store.get(cells, 0), Ok(Char(65)));
     let args = [Vector(cells)];
     let scene = run(
         &rt,
@@ -120,9 +116,9 @@ fn blocks_are_freed(rt: HostRuntime) -> Result<(), Fail> {
         &args,
         Ok(Unit),
         &[Free(cells)],
-    )?;
-    assert_eq!(rt; scene.store.get(cells, 0), Err(Freed));
-    assert_eq!(rt; scene.store.load(bytes), Ok(8));
+    );
+    same(&rt, scene.store.get(cells, 0), Err(Freed));
+    same(&rt, scene.store.load(bytes), Ok(8));
     let causes = [
         (made(2, 0), Freed),
         (made(3, 0), Freed),
@@ -132,8 +128,7 @@ fn blocks_are_freed(rt: HostRuntime) -> Result<(), Fail> {
         (Null, Bounds),
     ];
     for (p, op) in causes {
-        looks(&rt, alloc, DeallocateMemory, &[Address(p)], Err(op), &[])?;
-        looks(&rt, alloc, DeallocateVector, &[Vector(p)], Err(op), &[])?;
+        looks(&rt, alloc, DeallocateMemory, &[Address(p)], Err(op), &[]);
+        looks(&rt, alloc, DeallocateVector, &[Vector(p)], Err(op), &[]);
     }
-    Ok(())
 }

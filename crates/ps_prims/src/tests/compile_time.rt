@@ -1,6 +1,6 @@
 //! What is performed at compile time, of which nothing is seen from outside.
 
-use crate::tests::fixture::{Scene, at_compile, blocks, fixed, has_told, made, out};
+use crate::tests::fixture::{Scene, at_compile, blocks, fixed, has_told, made, out, same, same_in};
 use byte_store::Pointer::Null;
 use byte_store::Value::{self, Boolean, Char, Integer, Text, Unit, Vector};
 use ps_base::Op::{self, Bounds, Freed, Size, Unset};
@@ -8,7 +8,6 @@ use ps_base::Prim;
 use ps_base::PrimName::*;
 use std::alloc::Global;
 use std::process::Abort;
-use std::test::Fail;
 
 fn compiles(
     rt: &impl Abort,
@@ -17,19 +16,18 @@ fn compiles(
     p: Prim,
     args: &[Value],
     want: Result<Value, Op>,
-) -> Result<(), Fail> {
+) {
     let answer = at_compile(rt, alloc, p, args, scene);
-    assert_eq!(rt; answer, out(want), "{p:?} {args:?}");
-    has_told(rt, alloc, scene, &[])?;
-    assert_eq!(rt; (scene.world.peek(), scene.world.granted()), (200, true));
-    Ok(())
+    same_in(rt, &(p, args), answer, out(want));
+    has_told(rt, alloc, scene, &[]);
+    same(rt, (scene.world.peek(), scene.world.granted()), (200, true));
 }
 
 // The numbers of fixed blocks go on from that of block 2, and what has a cause uses none.
 #[test]
-fn fixed_blocks_are_made(rt: HostRuntime) -> Result<(), Fail> {
+fn fixed_blocks_are_made(rt: HostRuntime) {
     let alloc = rt.alloc();
-    let mut scene = blocks(&rt, alloc, &[200], &[true])?;
+    let mut scene = blocks(&rt, alloc, &[200], &[true]);
     let hi = Text(fixed(0, 0));
     let end = Text(fixed(0, 2));
     let cases: &[(Prim, [Value; 2], Result<Value, Op>)] = &[
@@ -47,30 +45,29 @@ fn fixed_blocks_are_made(rt: HostRuntime) -> Result<(), Fail> {
         (MakeVector, [Integer(1), hi], Ok(Vector(fixed(7, 0)))),
     ];
     for (p, args, want) in cases {
-        compiles(&rt, alloc, &mut scene, *p, args, *want)?;
+        compiles(&rt, alloc, &mut scene, *p, args, *want);
     }
     for (at, byte) in [(0, 104), (1, 105), (2, 105), (3, 0)] {
-        assert_eq!(rt; scene.store.load(fixed(4, at)), Ok(byte), "{at}");
+        same_in(&rt, &at, scene.store.load(fixed(4, at)), Ok(byte));
     }
-    assert_eq!(rt; scene.store.load(fixed(4, 4)), Err(Bounds));
-    assert_eq!(rt; scene.store.load(fixed(6, 0)), Ok(0));
-    assert_eq!(rt; scene.store.load(fixed(6, 1)), Err(Bounds));
-    assert_eq!(rt; scene.store.get(fixed(3, 0), 1), Ok(Char(66)));
-    assert_eq!(rt; scene.store.get(fixed(3, 0), 2), Err(Bounds));
-    assert_eq!(rt; scene.store.get(fixed(7, 0), 0), Ok(hi));
-    assert_eq!(rt; scene.store.next_fixed(), 8);
-    assert_eq!(rt; scene.store.load(made(5, 0)), Err(Bounds));
-    Ok(())
+    same(&rt, scene.store.load(fixed(4, 4)), Err(Bounds));
+    same(&rt, scene.store.load(fixed(6, 0)), Ok(0));
+    same(&rt, scene.store.load(fixed(6, 1)), Err(Bounds));
+    same(&rt, scene.store.get(fixed(3, 0), 1), Ok(Char(66)));
+    same(&rt, scene.store.get(fixed(3, 0), 2), Err(Bounds));
+    same(&rt, scene.store.get(fixed(7, 0), 0), Ok(hi));
+    same(&rt, scene.store.next_fixed(), 8);
+    same(&rt, scene.store.load(made(5, 0)), Err(Bounds));
 }
 
 #[test]
-fn strings_are_compared(rt: HostRuntime) -> Result<(), Fail> {
+fn strings_are_compared(rt: HostRuntime) {
     let alloc = rt.alloc();
-    let mut scene = blocks(&rt, alloc, &[200], &[true])?;
+    let mut scene = blocks(&rt, alloc, &[200], &[true]);
     let (hi, end) = (fixed(0, 0), fixed(0, 2));
     let copy = fixed(3, 0);
     let args = [Text(hi), Text(end)];
-    compiles(&rt, alloc, &mut scene, StringAppend, &args, Ok(Text(copy)))?;
+    compiles(&rt, alloc, &mut scene, StringAppend, &args, Ok(Text(copy)));
     let cases = [
         (hi, copy, Ok(Boolean(true))),
         (hi, hi, Ok(Boolean(true))),
@@ -85,16 +82,15 @@ fn strings_are_compared(rt: HostRuntime) -> Result<(), Fail> {
     ];
     for (p, q, want) in cases {
         let args = [Text(p), Text(q)];
-        compiles(&rt, alloc, &mut scene, StringEqual, &args, want)?;
+        compiles(&rt, alloc, &mut scene, StringEqual, &args, want);
     }
-    assert_eq!(rt; scene.store.next_fixed(), 4);
-    Ok(())
+    same(&rt, scene.store.next_fixed(), 4);
 }
 
 #[test]
-fn looks_and_changes(rt: HostRuntime) -> Result<(), Fail> {
+fn looks_and_changes(rt: HostRuntime) {
     let alloc = rt.alloc();
-    let mut scene = blocks(&rt, alloc, &[200], &[true])?;
+    let mut scene = blocks(&rt, alloc, &[200], &[true]);
     let (text, vector) = (Text(fixed(0, 0)), Vector(fixed(1, 0)));
     let (zero, one) = (Integer(0), Integer(1));
     let cases: &[(Prim, &[Value], Result<Value, Op>)] = &[
@@ -117,8 +113,7 @@ fn looks_and_changes(rt: HostRuntime) -> Result<(), Fail> {
         (IsNullVector, &[Vector(Null)], Ok(Boolean(true))),
     ];
     for (p, args, want) in cases {
-        compiles(&rt, alloc, &mut scene, *p, args, *want)?;
+        compiles(&rt, alloc, &mut scene, *p, args, *want);
     }
-    assert_eq!(rt; scene.store.next_fixed(), 3);
-    Ok(())
+    same(&rt, scene.store.next_fixed(), 3);
 }

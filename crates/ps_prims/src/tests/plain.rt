@@ -1,50 +1,35 @@
 //! Primitives that see nothing but their operands, of other sorts than integers.
 
 use crate::PrimOut;
-use crate::tests::fixture::{at_compile, at_run, blocks, has_told, is_untouched, out};
+use crate::tests::fixture::{at_compile, at_run, blocks, has_told, is_untouched, out, same_in};
 use byte_store::Pointer::Null;
 use byte_store::Value::{self, Address, Boolean, Char, Integer, Unit};
 use ps_base::PrimName::*;
 use ps_base::{Op, Prim};
 use std::alloc::Global;
 use std::process::Abort;
-use std::test::Fail;
 
 /// At both stages this comes of a primitive, and nothing is changed or shown.
-pub fn alone(
-    rt: &impl Abort,
-    alloc: Global,
-    p: Prim,
-    args: &[Value],
-    want: PrimOut,
-) -> Result<(), Fail> {
-    let mut scene = blocks(rt, alloc, &[200], &[true])?;
+pub fn alone(rt: &impl Abort, alloc: Global, p: Prim, args: &[Value], want: PrimOut) {
+    let mut scene = blocks(rt, alloc, &[200], &[true]);
     let answer = at_compile(rt, alloc, p, args, &mut scene);
-    assert_eq!(rt; answer, want, "{p:?} {args:?}");
-    alone_at_run(rt, alloc, p, args, want)?;
-    has_told(rt, alloc, &scene, &[])?;
+    same_in(rt, &(p, args), answer, want);
+    alone_at_run(rt, alloc, p, args, want);
+    has_told(rt, alloc, &scene, &[]);
     is_untouched(rt, &scene);
-    Ok(())
 }
 
 /// The same at run time.
-pub fn alone_at_run(
-    rt: &impl Abort,
-    alloc: Global,
-    p: Prim,
-    args: &[Value],
-    want: PrimOut,
-) -> Result<(), Fail> {
-    let mut scene = blocks(rt, alloc, &[200], &[true])?;
+pub fn alone_at_run(rt: &impl Abort, alloc: Global, p: Prim, args: &[Value], want: PrimOut) {
+    let mut scene = blocks(rt, alloc, &[200], &[true]);
     let answer = at_run(rt, alloc, p, args, &mut scene);
-    assert_eq!(rt; answer, want, "{p:?} {args:?}");
-    has_told(rt, alloc, &scene, &[])?;
+    same_in(rt, &(p, args), answer, want);
+    has_told(rt, alloc, &scene, &[]);
     is_untouched(rt, &scene);
-    Ok(())
 }
 
 #[test]
-fn two_operands(rt: HostRuntime) -> Result<(), Fail> {
+fn two_operands(rt: HostRuntime) {
     let cases = [
         (BooleanEqual, [Boolean(false), Boolean(false)], true),
         (BooleanEqual, [Boolean(false), Boolean(true)], false),
@@ -59,13 +44,12 @@ fn two_operands(rt: HostRuntime) -> Result<(), Fail> {
         (CharLess, [Char(97), Char(97)], false),
     ];
     for (p, args, want) in cases {
-        alone(&rt, rt.alloc(), p, &args, PrimOut::Value(Boolean(want)))?;
+        alone(&rt, rt.alloc(), p, &args, PrimOut::Value(Boolean(want)));
     }
-    Ok(())
 }
 
 #[test]
-fn one_operand_or_none(rt: HostRuntime) -> Result<(), Fail> {
+fn one_operand_or_none(rt: HostRuntime) {
     let cases = [
         (Not, Boolean(false), Ok(Boolean(true))),
         (Not, Boolean(true), Ok(Boolean(false))),
@@ -81,10 +65,9 @@ fn one_operand_or_none(rt: HostRuntime) -> Result<(), Fail> {
         (AsciiToChar, Integer(i64::MIN), Err(Op::Char)),
     ];
     for (p, arg, want) in cases {
-        alone(&rt, rt.alloc(), p, &[arg], out(want))?;
+        alone(&rt, rt.alloc(), p, &[arg], out(want));
     }
-    alone(&rt, rt.alloc(), Unspecific, &[], PrimOut::Value(Unit))?;
+    alone(&rt, rt.alloc(), Unspecific, &[], PrimOut::Value(Unit));
     let null = PrimOut::Value(Address(Null));
-    alone(&rt, rt.alloc(), NullAddress, &[], null)?;
-    Ok(())
+    alone(&rt, rt.alloc(), NullAddress, &[], null);
 }

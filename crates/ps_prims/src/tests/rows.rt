@@ -1,10 +1,10 @@
 //! How many operands each primitive takes, and the stages to which it belongs.
 
 use crate::Stages::{self, Both, CompileOnly, RunOnly};
+use crate::tests::fixture::same_in;
 use crate::{arity_of, stages_of};
 use ps_base::Prim;
 use ps_base::PrimName::*;
-use std::test::Fail;
 
 const OF_OPERANDS_ALONE: [(Prim, u32); 30] = [
     (Add, 2),
@@ -65,12 +65,11 @@ const OF_MEMORY_AND_WORLD: [(Prim, Stages, u32); 22] = [
 ];
 
 #[test]
-fn each_primitive(rt: HostRuntime) -> Result<(), Fail> {
+fn each_primitive(rt: HostRuntime) {
     for (p, operands) in OF_OPERANDS_ALONE {
-        assert_eq!(rt; (stages_of(p), arity_of(p)), (Both, operands), "{p:?}");
+        same_in(&rt, &p, (stages_of(p), arity_of(p)), (Both, operands));
     }
     for (p, stages, operands) in OF_MEMORY_AND_WORLD {
-        assert_eq!(rt; (stages_of(p), arity_of(p)), (stages, operands), "{p:?}");
+        same_in(&rt, &p, (stages_of(p), arity_of(p)), (stages, operands));
     }
-    Ok(())
 }

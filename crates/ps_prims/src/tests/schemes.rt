@@ -1,12 +1,12 @@
 //! The types of primitives, as they are written.
 
 use crate::scheme_of;
+use crate::tests::fixture::same;
 use ps_base::{Items, MemorySink, Names, Prim};
 use ps_types::{has_known_records, write_type};
-use std::test::Fail;
 
 #[test]
-fn types_are_those_of_the_rows(rt: HostRuntime) -> Result<(), Fail> {
+fn types_are_those_of_the_rows(rt: HostRuntime) {
     let alloc = rt.alloc();
     let names = Names::new(alloc);
     let table = [
@@ -20,12 +20,15 @@ fn types_are_those_of_the_rows(rt: HostRuntime) -> Result<(), Fail> {
         (Prim::AddressAdd, 0, b"(proc (address integer) address)"),
     ];
     for (p, variables, text) in table {
-        let scheme = scheme_of(alloc, p)?;
-        let mut page = MemorySink::new(alloc, 100, 100, Items::new(alloc))?;
+        let scheme = scheme_of(alloc, p).expect(&rt, "memory");
+        let mut page = MemorySink::new(alloc, 100, 100, Items::new(alloc)).expect(&rt, "memory");
         assert!(rt; has_known_records(&scheme.body, &[], &names));
-        assert_eq!(rt; write_type(&scheme.body, &[], &names, &mut page), Ok(()));
-        assert_eq!(rt; page.bytes(), text);
-        assert_eq!(rt; scheme.variables.len(), variables);
+        same(
+            &rt,
+            write_type(&scheme.body, &[], &names, &mut page),
+            Ok(()),
+        );
+        same(&rt, page.bytes(), text);
+        same(&rt, scheme.variables.len(), variables);
     }
-    Ok(())
 }

@@ -1,6 +1,6 @@
 //! Operands of another number or of other sorts.
 
-use crate::tests::fixture::{at_compile, blocks, fixed, has_told, is_untouched, made};
+use crate::tests::fixture::{at_compile, blocks, fixed, has_told, is_untouched, made, same_in};
 use crate::tests::plain::{alone, alone_at_run};
 use crate::{PrimOut, Stages, stages_of};
 use byte_store::Pointer::Null;
@@ -9,24 +9,17 @@ use ps_base::Prim;
 use ps_base::PrimName::*;
 use std::alloc::Global;
 use std::process::Abort;
-use std::test::Fail;
 
-fn wrong_at_compile_time(
-    rt: &impl Abort,
-    alloc: Global,
-    p: Prim,
-    args: &[Value],
-) -> Result<(), Fail> {
-    let mut scene = blocks(rt, alloc, &[200], &[true])?;
+fn wrong_at_compile_time(rt: &impl Abort, alloc: Global, p: Prim, args: &[Value]) {
+    let mut scene = blocks(rt, alloc, &[200], &[true]);
     let answer = at_compile(rt, alloc, p, args, &mut scene);
-    assert_eq!(rt; answer, PrimOut::Wrong, "{p:?} {args:?}");
-    has_told(rt, alloc, &scene, &[])?;
+    same_in(rt, &(p, args), answer, PrimOut::Wrong);
+    has_told(rt, alloc, &scene, &[]);
     is_untouched(rt, &scene);
-    Ok(())
 }
 
 // At each stage to which the primitive belongs.
-fn wrong(rt: &impl Abort, alloc: Global, p: Prim, args: &[Value]) -> Result<(), Fail> {
+fn wrong(rt: &impl Abort, alloc: Global, p: Prim, args: &[Value]) {
     match stages_of(p) {
         Stages::Both => alone(rt, alloc, p, args, PrimOut::Wrong),
         Stages::CompileOnly => wrong_at_compile_time(rt, alloc, p, args),
@@ -35,27 +28,22 @@ fn wrong(rt: &impl Abort, alloc: Global, p: Prim, args: &[Value]) -> Result<(), 
 }
 
 // Operands that the primitive takes, of three at most, and for each of them one of another sort.
-fn each_wrong(
-    rt: &impl Abort,
-    alloc: Global,
-    p: Prim,
-    right: &[Value],
-    other: &[Value],
-) -> Result<(), Fail> {
+fn each_wrong(rt: &impl Abort, alloc: Global, p: Prim, right: &[Value], other: &[Value]) {
     for (i, value) in other.iter().enumerate() {
         let mut args = Vec::new(alloc);
         for (j, own) in right.iter().enumerate() {
-            args.push(if i == j { *value } else { *own })?;
+            args.push(if i == j { *value } else { *own })
+                .expect(rt, "memory");
         }
-        wrong(rt, alloc, p, args.as_slice())?;
+        wrong(rt, alloc, p, args.as_slice());
     }
     let mut more = Vec::new(alloc);
     for value in right {
-        wrong(rt, alloc, p, more.as_slice())?;
-        more.push(*value)?;
+        wrong(rt, alloc, p, more.as_slice());
+        more.push(*value).expect(rt, "memory");
     }
-    more.push(Unit)?;
-    wrong(rt, alloc, p, more.as_slice())
+    more.push(Unit).expect(rt, "memory");
+    wrong(rt, alloc, p, more.as_slice());
 }
 
 const INTEGER: Value = Integer(1);
@@ -67,7 +55,7 @@ const TEXT: Value = Text(Null);
 const CELLS: Value = Vector(Null);
 
 #[test]
-fn two_integers_or_one(rt: HostRuntime) -> Result<(), Fail> {
+fn two_integers_or_one(rt: HostRuntime) {
     let numbers = [INTEGER, INTEGER];
     let cases: &[(Prim, &[Value], &[Value])] = &[
         (Add, &numbers, &[Char(1), Unit]),
@@ -93,13 +81,12 @@ fn two_integers_or_one(rt: HostRuntime) -> Result<(), Fail> {
         (LogicalShiftRight, &numbers, &[Unit, Boolean(true)]),
     ];
     for (p, right, other) in cases {
-        each_wrong(&rt, rt.alloc(), *p, right, other)?;
+        each_wrong(&rt, rt.alloc(), *p, right, other);
     }
-    Ok(())
 }
 
 #[test]
-fn other_operands_or_none(rt: HostRuntime) -> Result<(), Fail> {
+fn other_operands_or_none(rt: HostRuntime) {
     let truths = [Boolean(true), Boolean(false)];
     let chars = [Char(97), Char(98)];
     let cases: &[(Prim, &[Value], &[Value])] = &[
@@ -116,13 +103,12 @@ fn other_operands_or_none(rt: HostRuntime) -> Result<(), Fail> {
         (AllocateMemory, &[INTEGER], &[Char(1)]),
     ];
     for (p, right, other) in cases {
-        each_wrong(&rt, rt.alloc(), *p, right, other)?;
+        each_wrong(&rt, rt.alloc(), *p, right, other);
     }
-    Ok(())
 }
 
 #[test]
-fn pointers(rt: HostRuntime) -> Result<(), Fail> {
+fn pointers(rt: HostRuntime) {
     let (bytes, cells) = (Address(made(0, 0)), Vector(made(1, 0)));
     let (text, zero) = (Text(fixed(0, 0)), Integer(0));
     let cases: &[(Prim, &[Value], &[Value])] = &[
@@ -156,7 +142,6 @@ fn pointers(rt: HostRuntime) -> Result<(), Fail> {
         (MakeVector, &[INTEGER, Unit], &[Char(1)]),
     ];
     for (p, right, other) in cases {
-        each_wrong(&rt, rt.alloc(), *p, right, other)?;
+        each_wrong(&rt, rt.alloc(), *p, right, other);
     }
-    Ok(())
 }

@@ -2,20 +2,21 @@
 
 use super::fixture::{read, weights, with_parameters};
 use crate::faults::fault;
+use crate::tests::fixture::{same, same_in};
 use ps_base::Place;
 use std::alloc::Global;
-use std::test::Fail;
+use std::process::Abort;
 
 // Where a text is no program, and where the mark says so.
-fn found(alloc: Global, text: &[u8]) -> Result<(Option<Place>, Option<Place>), Fail> {
-    let reading = read(alloc, text)?;
+fn found(rt: &(impl Abort + Alloc<A = Global>), text: &[u8]) -> (Option<Place>, Option<Place>) {
+    let reading = read(rt, text);
     let forms = reading.inner.as_slice();
-    let tokens = weights(forms).ok_or("a long text")?;
+    let tokens = weights(forms).expect(rt, "a long text");
     if tokens == u32::MAX {
-        return Err("a long text".into());
+        panic!(rt; "a long text");
     }
-    let at = fault(alloc, &reading.names, forms)?;
-    Ok((at, reading.mark))
+    let at = fault(rt.alloc(), &reading.names, forms).expect(rt, "memory");
+    (at, reading.mark)
 }
 
 // Each row is a text in which `|` marks the fault, where it has one.
@@ -108,22 +109,20 @@ const NAMES: &[u8] = b" (define (main) 1)\n\
  (define (main x) |y)";
 
 #[test]
-fn finds_faults(rt: HostRuntime) -> Result<(), Fail> {
+fn finds_faults(rt: HostRuntime) {
     for table in [SHAPES, NAMES] {
         for text in table.split(|b| *b == b'\n') {
-            let (at, mark) = found(rt.alloc(), text)?;
-            assert_eq!(rt; at, mark, "{}", str::from_utf8(text).unwrap_or("a text"));
+            let (at, mark) = found(&rt, text);
+            same_in(&rt, &str::from_utf8(text).unwrap_or("a text"), at, mark);
         }
     }
-    Ok(())
 }
 
 #[test]
-fn counts_parameters(rt: HostRuntime) -> Result<(), Fail> {
+fn counts_parameters(rt: HostRuntime) {
     for (count, last) in [(127, "last"), (128, "|last")] {
-        let text = with_parameters(rt.alloc(), count, last, "last")?;
-        let (at, mark) = found(rt.alloc(), text.as_bytes())?;
-        assert_eq!(rt; at, mark);
+        let text = with_parameters(&rt, count, last, "last");
+        let (at, mark) = found(&rt, text.as_bytes());
+        same(&rt, at, mark);
     }
-    Ok(())
 }

@@ -5,9 +5,20 @@ ghost use Rattle.ps_datum.specs.Weight.{weight, weights};
 
 use ps_base::{Boxed, Items, Names, Place};
 use ps_datum::{Datum, DatumKind};
-use std::alloc::{AllocError, Global};
+use std::alloc::Global;
+use std::fmt::Debug;
 use std::mem;
-use std::test::Fail;
+use std::process::Abort;
+
+/// What was got is what is wanted.
+pub fn same<T: PartialEq + Debug + Drop>(rt: &impl Abort, got: T, want: T) {
+    assert_eq!(rt; got, want);
+}
+
+/// The same, in a case of several.
+pub fn same_in<T: PartialEq + Debug + Drop>(rt: &impl Abort, case: &impl Debug, got: T, want: T) {
+    assert_eq!(rt; got, want, "{case:?}");
+}
 
 // What was read of a text: the names, the open brackets with the data before each, the data since then, the bytes of the word
 // that is open, and the column of the next byte. The mark is where a fault is expected.
@@ -38,50 +49,54 @@ impl Reading {
     }
 
     // What the word that is open is.
-    fn kind(&mut self) -> Result<DatumKind, Fail> {
+    fn kind(&mut self, rt: &impl Abort) -> DatumKind {
         let word = self.word.as_slice();
         if let Ok(text) = str::from_utf8(word) {
             if let Ok(integer) = text.parse::<i64>() {
-                return Ok(DatumKind::Integer(integer));
+                return DatumKind::Integer(integer);
             }
         }
         match word {
-            b"#t" => Ok(DatumKind::Boolean(true)),
-            b"#a" => Ok(DatumKind::Char(b'a')),
-            [b'"', text @ ..] => Ok(DatumKind::Text(Items::from_slice(self.alloc, text)?)),
+            b"#t" => DatumKind::Boolean(true),
+            b"#a" => DatumKind::Char(b'a'),
+            [b'"', text @ ..] => DatumKind::Text(Items::from_slice(self.alloc, text).expect(
+                rt, "memory",
+            )),
             _ => {
                 if self.names.len() == u32::MAX {
-                    return Err("many names".into());
+                    panic!(rt; "many names");
                 }
-                Ok(DatumKind::Symbol(self.names.add(word)?))
+                DatumKind::Symbol(self.names.add(word).expect(rt, "memory"))
             }
         }
     }
 
     // Ends the word that is open.
-    fn end_word(&mut self) -> Result<(), Fail> {
+    fn end_word(&mut self, rt: &impl Abort) {
         if self.word.is_empty() {
-            return Ok(());
+            return;
         }
-        let kind = self.kind()?;
+        let kind = self.kind(rt);
         self.word.clear();
-        self.inner.push(Datum {
-            place: self.start,
-            kind,
-        })?;
-        Ok(())
+        self.inner
+            .push(Datum {
+                place: self.start,
+                kind,
+            })
+            .expect(rt, "memory");
     }
 
-    fn open(&mut self) -> Result<(), Fail> {
-        self.end_word()?;
+    fn open(&mut self, rt: &impl Abort) {
+        self.end_word(rt);
         let inner = mem::replace(&mut self.inner, Items::new(self.alloc));
-        self.outer.push((place(self.column), inner))?;
-        Ok(())
+        self.outer
+            .push((place(self.column), inner))
+            .expect(rt, "memory");
     }
 
-    fn close(&mut self, bracket: u8) -> Result<(), Fail> {
-        self.end_word()?;
-        let (place, before) = self.outer.pop().ok_or("a stray bracket")?;
+    fn close(&mut self, rt: &impl Abort, bracket: u8) {
+        self.end_word(rt);
+        let (place, before) = self.outer.pop().expect(rt, "a stray bracket");
         let parts = mem::replace(&mut self.inner, before);
         let kind = match bracket {
             b')' => DatumKind::List(parts),
@@ -91,32 +106,30 @@ impl Reading {
                     place,
                     kind: DatumKind::Boolean(true),
                 };
-                DatumKind::Dotted(parts, Boxed::new(self.alloc, tail)?)
+                DatumKind::Dotted(parts, Boxed::new(self.alloc, tail).expect(rt, "memory"))
             }
         };
-        self.inner.push(Datum { place, kind })?;
-        Ok(())
+        self.inner.push(Datum { place, kind }).expect(rt, "memory");
     }
 
     // Reads a byte. A `|` is no byte of the text, but marks the place of the next one.
-    fn read(&mut self, byte: u8) -> Result<(), Fail> {
+    fn read(&mut self, rt: &impl Abort, byte: u8) {
         match byte {
             b'|' => {
                 self.mark = Some(place(self.column));
-                return Ok(());
+                return;
             }
-            b'(' | b'[' | b'{' => self.open()?,
-            b')' | b']' | b'}' => self.close(byte)?,
-            b' ' => self.end_word()?,
+            b'(' | b'[' | b'{' => self.open(rt),
+            b')' | b']' | b'}' => self.close(rt, byte),
+            b' ' => self.end_word(rt),
             _ => {
                 if self.word.is_empty() {
                     self.start = place(self.column);
                 }
-                self.word.push(byte)?;
+                self.word.push(byte).expect(rt, "memory");
             }
         }
         self.column = self.column.saturating_add(1);
-        Ok(())
     }
 }
 
@@ -162,27 +175,28 @@ pub(crate) fn weights(forms: &[Datum]) -> Option<u32>
 }
 
 // The data of a text. Brackets `[` and `]` write a vector, `{a}` writes `(a . #t)`, and `|` marks the place of the next byte.
-pub(crate) fn read(alloc: Global, text: &[u8]) -> Result<Reading, Fail> {
-    let mut reading = Reading::new(alloc);
+pub(crate) fn read(rt: &(impl Abort + Alloc<A = Global>), text: &[u8]) -> Reading {
+    let mut reading = Reading::new(rt.alloc());
     for byte in text {
-        reading.read(*byte)?;
+        reading.read(rt, *byte);
     }
-    reading.end_word()?;
-    Ok(reading)
+    reading.end_word(rt);
+    reading
 }
 
 // The text of a program with a procedure of so many parameters, of which the last is written so, and of this value.
 pub(crate) fn with_parameters(
-    alloc: Global,
+    rt: &(impl Abort + Alloc<A = Global>),
     count: u32,
     last: &str,
     value: &str,
-) -> Result<String, AllocError> {
-    let mut text = String::new(alloc);
-    text.push_str("(define (main) 1) (define (f")?;
+) -> String {
+    let mut text = String::new(rt.alloc());
+    text.push_str("(define (main) 1) (define (f")
+        .expect(rt, "memory");
     for number in 1..count {
-        write!(text, " x{number}")?;
+        write!(text, " x{number}").expect(rt, "memory");
     }
-    write!(text, " {last}) {value})")?;
-    Ok(text)
+    write!(text, " {last}) {value})").expect(rt, "memory");
+    text
 }

@@ -4,22 +4,21 @@ use super::{not_built, sink};
 use crate::answer::Answer::{self, Done, NoMemory, Refused};
 use crate::answer::status_of;
 use crate::lines::write_fault;
+use crate::tests::same;
 use ps_base::Fault::*;
 use ps_base::{FormKind, ModuleKind, Name, Names, Op, Place, Position, SurviveKind, SyntaxKind};
-use std::test::Fail;
 
 #[test]
-fn prints_the_line_of_each_fault(rt: HostRuntime) -> Result<(), Fail> {
-    let alloc = rt.alloc();
+fn prints_the_line_of_each_fault(rt: HostRuntime) {
     let at = Place {
         file: 2,
         line: 3,
         column: 45,
     };
-    let mut names = Names::new(alloc);
-    assert_eq!(rt; names.add(b"user"), Ok(Name(0)));
-    let main = names.add(b"main")?;
-    assert_eq!(rt; main, Name(1));
+    let mut names = Names::new(rt.alloc());
+    same(&rt, names.add(b"user"), Ok(Name(0)));
+    let main = names.add(b"main").expect(&rt, "memory");
+    same(&rt, main, Name(1));
     let user = Name(0);
     let cases: &[(Answer, u8, &[u8])] = &[
         (Done, 0, b""),
@@ -113,10 +112,9 @@ fn prints_the_line_of_each_fault(rt: HostRuntime) -> Result<(), Fail> {
         (not_built(1, 1), 17, b"psc: 17 not-built 0:1:1\n"),
     ];
     for (answer, status, line) in cases {
-        let mut errors = sink(alloc, 100, 4, &[])?;
-        assert_eq!(rt; status_of(answer), *status);
-        assert_eq!(rt; write_fault(answer, &names, &mut errors), Ok(()));
-        assert_eq!(rt; errors.bytes(), *line);
+        let mut errors = sink(&rt, 100, 4, &[]);
+        same(&rt, status_of(answer), *status);
+        same(&rt, write_fault(answer, &names, &mut errors), Ok(()));
+        same(&rt, errors.bytes(), *line);
     }
-    Ok(())
 }

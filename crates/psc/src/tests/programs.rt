@@ -5,6 +5,7 @@ ghost use Rattle.std.specs.Prelude.{◌<◌};
 use super::texts::FOOT;
 use super::{compiled, not_built, syntax};
 use crate::answer::Answer;
+use crate::tests::same;
 use itoa::Buffer;
 use ps_base::SyntaxKind::{
     self, BadCharacter, BadDot, BadEscape, BadToken, FloatLiteral, StrayClose, TooDeep, Unclosed,
@@ -12,20 +13,24 @@ use ps_base::SyntaxKind::{
 };
 use std::alloc::Global;
 use std::process::Abort;
-use std::test::Fail;
 
 // A program of this many nested expressions, which begin and end so.
-fn nested(alloc: Global, begin: &[u8], count: usize, end: &[u8]) -> Result<Vec<u8>, Fail> {
-    let mut text = Vec::from_slice(alloc, b"(define (main) ")?;
+fn nested(
+    rt: &(impl Abort + Alloc<A = Global>),
+    begin: &[u8],
+    count: usize,
+    end: &[u8],
+) -> Vec<u8> {
+    let mut text = Vec::from_slice(rt.alloc(), b"(define (main) ").expect(rt, "memory");
     for _ in 0..count {
-        text.extend_from_slice(begin)?;
+        text.extend_from_slice(begin).expect(rt, "memory");
     }
-    text.extend_from_slice(b"1")?;
+    text.extend_from_slice(b"1").expect(rt, "memory");
     for _ in 0..count {
-        text.extend_from_slice(end)?;
+        text.extend_from_slice(end).expect(rt, "memory");
     }
-    text.extend_from_slice(b")")?;
-    Ok(text)
+    text.extend_from_slice(b")").expect(rt, "memory");
+    text
 }
 
 // How deep expressions that begin and end so may be nested, and in which column the bracket that is too deep stands: a
@@ -39,15 +44,13 @@ const NESTINGS: &[Nesting] = &[
 ];
 
 #[test]
-fn compiles_200_levels_alone(rt: HostRuntime) -> Result<(), Fail> {
-    let alloc = rt.alloc();
+fn compiles_200_levels_alone(rt: HostRuntime) {
     for (begin, end, deepest, column) in NESTINGS {
-        let text = nested(alloc, begin, *deepest, end)?;
-        assert_eq!(rt; compiled(alloc, &text)?.0, Answer::Done);
-        let text = nested(alloc, begin, *deepest + 1, end)?;
-        assert_eq!(rt; compiled(alloc, &text)?.0, syntax(TooDeep, 1, *column));
+        let text = nested(&rt, begin, *deepest, end);
+        same(&rt, compiled(&rt, &text).0, Answer::Done);
+        let text = nested(&rt, begin, *deepest + 1, end);
+        same(&rt, compiled(&rt, &text).0, syntax(TooDeep, 1, *column));
     }
-    Ok(())
 }
 
 // Texts that are programs.
@@ -291,101 +294,101 @@ const BREACHES: &[(&[u8], SyntaxKind, u32, u32)] = &[
 ];
 
 // Each text has this fault, and nothing is written.
-fn refuses(rt: &impl Abort, alloc: Global, faults: &[Fault]) -> Result<(), Fail> {
+fn refuses(rt: &(impl Abort + Alloc<A = Global>), faults: &[Fault]) {
     for (text, line, column) in faults {
-        let (answer, output) = compiled(alloc, text)?;
-        assert_eq!(rt; answer, not_built(*line, *column));
+        let (answer, output) = compiled(rt, text);
+        same(rt, answer, not_built(*line, *column));
         assert!(rt; output.bytes().is_empty());
     }
-    Ok(())
 }
 
 #[test]
-fn compiles_programs(rt: HostRuntime) -> Result<(), Fail> {
-    let alloc = rt.alloc();
+fn compiles_programs(rt: HostRuntime) {
     for text in PROGRAMS {
-        let (answer, output) = compiled(alloc, text)?;
-        assert_eq!(rt; answer, Answer::Done);
+        let (answer, output) = compiled(&rt, text);
+        same(&rt, answer, Answer::Done);
         assert!(rt; output.bytes().ends_with(FOOT));
     }
-    Ok(())
 }
 
 #[test]
-fn refuses_other_shapes(rt: HostRuntime) -> Result<(), Fail> {
-    refuses(&rt, rt.alloc(), SHAPES)
+fn refuses_other_shapes(rt: HostRuntime) {
+    refuses(&rt, SHAPES);
 }
 
 #[test]
-fn refuses_other_names(rt: HostRuntime) -> Result<(), Fail> {
-    refuses(&rt, rt.alloc(), NAMES)
+fn refuses_other_names(rt: HostRuntime) {
+    refuses(&rt, NAMES);
 }
 
 #[test]
-fn tells_the_first_fault(rt: HostRuntime) -> Result<(), Fail> {
-    refuses(&rt, rt.alloc(), FIRST_FAULTS)
+fn tells_the_first_fault(rt: HostRuntime) {
+    refuses(&rt, FIRST_FAULTS);
 }
 
 #[test]
-fn tells_the_first_breach(rt: HostRuntime) -> Result<(), Fail> {
-    let alloc = rt.alloc();
+fn tells_the_first_breach(rt: HostRuntime) {
     for (text, kind, line, column) in BREACHES {
-        let (answer, output) = compiled(alloc, text)?;
-        assert_eq!(rt; answer, syntax(*kind, *line, *column));
+        let (answer, output) = compiled(&rt, text);
+        same(&rt, answer, syntax(*kind, *line, *column));
         assert!(rt; output.bytes().is_empty());
     }
-    Ok(())
 }
 
 // Appends ` x0`, ` x1` and so on, so many.
-fn push_parameters(text: &mut Vec<u8>, count: u32) -> Result<(), Fail> {
+fn push_parameters(rt: &impl Abort, text: &mut Vec<u8>, count: u32) {
     let mut buffer = Buffer::new();
     for k in 0..count {
-        text.extend_from_slice(b" x")?;
-        text.extend_from_slice(buffer.format(k).as_bytes())?;
+        text.extend_from_slice(b" x").expect(rt, "memory");
+        text.extend_from_slice(buffer.format(k).as_bytes())
+            .expect(rt, "memory");
     }
-    Ok(())
 }
 
 #[test]
-fn compiles_127_parameters_alone(rt: HostRuntime) -> Result<(), Fail> {
-    let alloc = rt.alloc();
+fn compiles_127_parameters_alone(rt: HostRuntime) {
     for (count, wanted) in [(127, Answer::Done), (128, not_built(1, 537))] {
-        let mut text = Vec::from_slice(alloc, b"(define (f")?;
-        push_parameters(&mut text, count)?;
-        text.extend_from_slice(b") x0) (define (main) 0)")?;
-        assert_eq!(rt; compiled(alloc, &text)?.0, wanted);
+        let mut text = Vec::from_slice(rt.alloc(), b"(define (f").expect(&rt, "memory");
+        push_parameters(&rt, &mut text, count);
+        text.extend_from_slice(b") x0) (define (main) 0)")
+            .expect(&rt, "memory");
+        same(&rt, compiled(&rt, &text).0, wanted);
     }
-    Ok(())
 }
 
 // A text of so many procedures. The first one counts down, and each other one calls the one before.
-fn chain(alloc: Global, count: u32) -> Result<Vec<u8>, Fail>
+fn chain(rt: &(impl Abort + Alloc<A = Global>), count: u32) -> Vec<u8>
     requires { 0 < count }
 {
     let mut buffer = Buffer::new();
-    let mut text = Vec::from_slice(alloc, b"(define (p0 a b) (if (< a b) a (- a b)))\n")?;
+    let mut text = Vec::from_slice(
+        rt.alloc(),
+        b"(define (p0 a b) (if (< a b) a (- a b)))\n",
+    ).expect(rt, "memory");
     for k in 1..count {
-        text.extend_from_slice(b"(define (p")?;
-        text.extend_from_slice(buffer.format(k).as_bytes())?;
-        text.extend_from_slice(b" a b) (p")?;
-        text.extend_from_slice(buffer.format(k - 1).as_bytes())?;
-        text.extend_from_slice(b" (+ b 1) a))\n")?;
+        text.extend_from_slice(b"(define (p").expect(rt, "memory");
+        text.extend_from_slice(buffer.format(k).as_bytes())
+            .expect(rt, "memory");
+        text.extend_from_slice(b" a b) (p").expect(rt, "memory");
+        text.extend_from_slice(buffer.format(k - 1).as_bytes())
+            .expect(rt, "memory");
+        text.extend_from_slice(b" (+ b 1) a))\n")
+            .expect(rt, "memory");
     }
-    text.extend_from_slice(b"(define (main) (p")?;
-    text.extend_from_slice(buffer.format(count - 1).as_bytes())?;
-    text.extend_from_slice(b" 1 2))\n")?;
-    Ok(text)
+    text.extend_from_slice(b"(define (main) (p")
+        .expect(rt, "memory");
+    text.extend_from_slice(buffer.format(count - 1).as_bytes())
+        .expect(rt, "memory");
+    text.extend_from_slice(b" 1 2))\n").expect(rt, "memory");
+    text
 }
 
 #[test]
-fn compiles_2000_procedures(rt: HostRuntime) -> Result<(), Fail> {
-    let alloc = rt.alloc();
-    let text = chain(alloc, 2000)?;
-    let (answer, output) = compiled(alloc, &text)?;
-    assert_eq!(rt; answer, Answer::Done);
+fn compiles_2000_procedures(rt: HostRuntime) {
+    let text = chain(&rt, 2000);
+    let (answer, output) = compiled(&rt, &text);
+    same(&rt, answer, Answer::Done);
     let lines = output.bytes().iter().filter(|b| **b == b'\n').count();
     // the prelude, main, and for each procedure its declaration, head, end, and at least two statements
     assert!(rt; lines > 34 + 1 + 2001 * 5);
-    Ok(())
 }

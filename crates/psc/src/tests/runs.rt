@@ -2,6 +2,7 @@
 
 ghost use Rattle.std.specs.Prelude.{◌≤◌, length};
 
+use crate::tests::same;
 use crate::translation::translate;
 use byte_store::Event::{self, Input, Output};
 use byte_store::World;
@@ -9,25 +10,32 @@ use c_meaning::StepOut::{self, Going, NoMemory, Returned, Stuck};
 use c_meaning::{CState, step};
 use ps_base::{Items, Op};
 use std::alloc::Global;
-use std::test::Fail;
+use std::process::Abort;
 
 // How the machine's run of a text's unit ends within 2000 steps, with this input, and what it does.
-fn run_of(alloc: Global, text: &[u8], input: &[u8]) -> Result<(StepOut, Items<Event>), Fail>
+fn run_of(
+    rt: &(impl Abort + Alloc<A = Global>),
+    text: &[u8],
+    input: &[u8],
+) -> (StepOut, Items<Event>)
     requires { length text.now ≤ 4194304 }
 {
-    let unit = translate(alloc, text)?;
-    let mut world = World::new(Items::from_slice(alloc, input)?, Items::new(alloc));
-    let mut events = Items::new(alloc);
-    let mut state = CState::start(alloc, &unit)?;
+    let unit = translate(rt.alloc(), text).expect(rt, "memory");
+    let mut world = World::new(
+        Items::from_slice(rt.alloc(), input).expect(rt, "memory"),
+        Items::new(rt.alloc()),
+    );
+    let mut events = Items::new(rt.alloc());
+    let mut state = CState::start(rt.alloc(), &unit).expect(rt, "memory");
     'steps: for _ in 0..2000 {
         match step(&unit, &mut state, &mut world, &mut events) {
             Going => {}
-            Returned(i) => return Ok((Returned(i), events)),
-            Stuck(op) => return Ok((Stuck(op), events)),
-            NoMemory => return Ok((NoMemory, events)),
+            Returned(i) => return (Returned(i), events),
+            Stuck(op) => return (Stuck(op), events),
+            NoMemory => return (NoMemory, events),
         }
     }
-    Ok((Going, events))
+    (Going, events)
 }
 
 // A program that reads and writes nothing, and what its unit returns.
@@ -246,45 +254,39 @@ const RUNS: &[Run] = &[
 ];
 
 #[test]
-fn units_return_what_their_programs_do(rt: HostRuntime) -> Result<(), Fail> {
-    let alloc = rt.alloc();
+fn units_return_what_their_programs_do(rt: HostRuntime) {
     for (text, wanted) in RESULTS {
         assert!(rt; text.len() < 1000);
-        let (out, events) = run_of(alloc, text, b"")?;
-        assert_eq!(rt; out, Returned(*wanted));
+        let (out, events) = run_of(&rt, text, b"");
+        same(&rt, out, Returned(*wanted));
         assert!(rt; events.as_slice().is_empty());
     }
     for text in OVERFLOWS {
         assert!(rt; text.len() < 1000);
-        let (out, events) = run_of(alloc, text, b"")?;
-        assert_eq!(rt; out, Stuck(Op::Overflow));
+        let (out, events) = run_of(&rt, text, b"");
+        same(&rt, out, Stuck(Op::Overflow));
         assert!(rt; events.as_slice().is_empty());
     }
-    Ok(())
 }
 
 #[test]
-fn units_do_what_their_programs_do(rt: HostRuntime) -> Result<(), Fail> {
-    let alloc = rt.alloc();
+fn units_do_what_their_programs_do(rt: HostRuntime) {
     for (text, input, wanted, done) in RUNS {
         assert!(rt; text.len() < 1000);
-        let (out, events) = run_of(alloc, text, input)?;
-        assert_eq!(rt; out, *wanted);
-        assert_eq!(rt; events.as_slice(), *done);
+        let (out, events) = run_of(&rt, text, input);
+        same(&rt, out, *wanted);
+        same(&rt, events.as_slice(), *done);
     }
-    Ok(())
 }
 
 #[test]
-fn a_run_that_never_ends_goes_on(rt: HostRuntime) -> Result<(), Fail> {
-    let alloc = rt.alloc();
+fn a_run_that_never_ends_goes_on(rt: HostRuntime) {
     let text = b"(define (f n) (write-byte n) (f (- 1 n))) (define (main) (f 0))";
-    let (out, events) = run_of(alloc, text, b"")?;
-    assert_eq!(rt; out, Going);
+    let (out, events) = run_of(&rt, text, b"");
+    same(&rt, out, Going);
     let events = events.as_slice();
     assert!(rt; events.len() > 300);
     for (i, event) in events.iter().enumerate() {
-        assert_eq!(rt; *event, Output(if i % 2 == 0 { 0 } else { 1 }));
+        same(&rt, *event, Output(if i % 2 == 0 { 0 } else { 1 }));
     }
-    Ok(())
 }

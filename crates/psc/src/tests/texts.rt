@@ -3,18 +3,17 @@
 use super::{compiled, sink, source, strings};
 use crate::answer::Answer;
 use crate::run::run_psc;
+use crate::tests::same;
 use c_ast::PRELUDE;
 use ps_base::{Sink, Taken};
-use std::test::Fail;
 
 // What stands behind the statements of the last function.
 pub const FOOT: &[u8] = b"}\nint main(void) { return (int)(ps_f0() & 255); }\n";
 
 #[test]
-fn writes_the_text_of_the_unit(rt: HostRuntime) -> Result<(), Fail> {
-    let alloc = rt.alloc();
-    assert_eq!(rt; PRELUDE.len(), 2816);
-    assert_eq!(rt; PRELUDE.iter().filter(|b| **b == b'\n').count(), 34);
+fn writes_the_text_of_the_unit(rt: HostRuntime) {
+    same(&rt, PRELUDE.len(), 2816);
+    same(&rt, PRELUDE.iter().filter(|b| **b == b'\n').count(), 34);
     let texts: &[(&[u8], &[u8])] = &[
         (
             b"(define (main) 42)",
@@ -54,14 +53,13 @@ fn writes_the_text_of_the_unit(rt: HostRuntime) -> Result<(), Fail> {
         ),
     ];
     for (text, body) in texts {
-        let (answer, output) = compiled(alloc, text)?;
-        assert_eq!(rt; answer, Answer::Done);
-        let mut wanted = Vec::from_slice(alloc, PRELUDE)?;
-        wanted.extend_from_slice(body)?;
-        wanted.extend_from_slice(FOOT)?;
-        assert_eq!(rt; output.bytes(), wanted.as_slice());
+        let (answer, output) = compiled(&rt, text);
+        same(&rt, answer, Answer::Done);
+        let mut wanted = Vec::from_slice(rt.alloc(), PRELUDE).expect(&rt, "memory");
+        wanted.extend_from_slice(body).expect(&rt, "memory");
+        wanted.extend_from_slice(FOOT).expect(&rt, "memory");
+        same(&rt, output.bytes(), wanted.as_slice());
     }
-    Ok(())
 }
 
 // A sink that takes each piece whole, and keeps how long the first one was.
@@ -86,15 +84,13 @@ impl Sink for FirstPiece {
 }
 
 #[test]
-fn the_first_piece_has_the_prelude(rt: HostRuntime) -> Result<(), Fail> {
-    let alloc = rt.alloc();
-    let words = strings(alloc, &["compile"])?;
-    let mut input = source(alloc, b"(define (main) 42)", 5, &[])?;
+fn the_first_piece_has_the_prelude(rt: HostRuntime) {
+    let words = strings(&rt, &["compile"]);
+    let mut input = source(&rt, b"(define (main) 42)", 5, &[]);
     let mut output = FirstPiece { length: None };
-    let mut errors = sink(alloc, 100, 100, &[])?;
-    let answer = run_psc(alloc, &words, &mut input, &mut output, &mut errors);
-    assert_eq!(rt; answer, Answer::Done);
+    let mut errors = sink(&rt, 100, 100, &[]);
+    let answer = run_psc(rt.alloc(), &words, &mut input, &mut output, &mut errors);
+    same(&rt, answer, Answer::Done);
     let FirstPiece { length } = output;
     assert!(rt; length.is_some_and(|n| n >= PRELUDE.len()));
-    Ok(())
 }

@@ -2,4 +2,4 @@ use Rattle.c_meaning.specs.Steps.{Stands}
 use Rattle.psc.proofs.tests.runs.run_of.Given as goal
 
 abbrev pub invariant-steps : goal.invariant-steps
-invariant-steps l = Stands l.unit l.state
+invariant-steps g l = Stands l.unit l.state
