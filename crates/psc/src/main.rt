@@ -4,6 +4,9 @@
 //! line to standard error and ends with the fault's number as its status.
 #![tactic(auto)]
 
+ghost use Rattle.std.specs.Prelude.{◌≡◌, ◌∷◌, [], IfOk, string_bytes};
+ghost use Rattle.std.specs.Str.{IsUtf8};
+
 mod answer;
 mod kinds;
 mod lines;
@@ -23,8 +26,14 @@ use std::rt::Env;
 use std::str;
 
 // The text of a word, or `?` where it is none.
-fn text_of(alloc: Global, word: &[u8]) -> Result<String, NoMemory> {
-    let text = str::from_utf8(word).unwrap_or("?");
+fn text_of(alloc: Global, word: &[u8]) -> Result<String, NoMemory>
+    ensures text { IfOk result (λ t. IsUtf8 word.now → string_bytes t ≡ word.now) }
+    ensures none { IfOk result (λ t. ¬ (IsUtf8 word.now) → string_bytes t ≡ 63 ∷ []) }
+{
+    let text = match str::from_utf8(word) {
+        Ok(text) => text,
+        Err(_) => "?",
+    };
     Ok(String::from_str(alloc, text)?)
 }
 
