@@ -3,27 +3,27 @@ use Rattle.std.proofs.Common.{◌≡◌, ℕ, suc, ◌+◌, ◌-◌, ◌<◌, �
 use Rattle.std.specs.Option.{option_map}
 use Rattle.std.proofs.lemmas.List.{append-nil, take-append-drop, take_all, nil_from_length, length-drop}
 use Rattle.ps_base.specs.declared.sink.SinkFault.{SinkFault}
-use Rattle.ps_base.specs.SinkStates.{SinkState}
+use Rattle.ps_base.specs.SinkStates.{SinkState, TellsNumber}
 use Rattle.ps_base.specs.Numbers.{more, Rose}
 use Rattle.ps_base.specs.Sinks.{Appended, Cut, Writes, Adds}
 use Rattle.ps_base.specs.Texts.{◌&◌, each}
 
-bytes_join : (o : Option (List ℕ)) (a b : List ℕ) → option_map (λ bs. bs ++ b) (option_map (λ bs. bs ++ a) o) ≡ option_map (λ bs. bs ++ (a ++ b)) o
+pub bytes_join : (o : Option (List ℕ)) (a b : List ℕ) → option_map (λ bs. bs ++ b) (option_map (λ bs. bs ++ a) o) ≡ option_map (λ bs. bs ++ (a ++ b)) o
 bytes_join None a b = refl
 bytes_join (Some bs) a b = ap (λ (x : List ℕ). Some x) (append_assoc bs a b)
 
-number_join : (o : Option ℕ) (a b c : ℕ) → c ≡ a + b → option_map (λ n. more n b) (option_map (λ n. more n a) o) ≡ option_map (λ n. more n c) o
+pub number_join : (o : Option ℕ) (a b c : ℕ) → c ≡ a + b → option_map (λ n. more n b) (option_map (λ n. more n a) o) ≡ option_map (λ n. more n c) o
 number_join None a b c e = refl
 number_join (Some n) a b c e = ap (λ (x : ℕ). Some x) (omega arith)
 
-appended_join : (s t u : SinkState) (a b : List ℕ) → Appended s t a → Appended t u b → Appended s u (a ++ b)
+pub appended_join : (s t u : SinkState) (a b : List ℕ) → Appended s t a → Appended t u b → Appended s u (a ++ b)
 appended_join s t u a b h k = record {
   bytes = k.bytes ∙ ap (option_map (λ bs. bs ++ b)) h.bytes ∙ bytes_join s.bytes a b;
   number = k.number ∙ ap (option_map (λ n. more n (length b))) h.number ∙ number_join s.number (length a) (length b) (length (a ++ b)) (length-append a b);
   faults = let x = h.faults in let y = k.faults in omega arith;
 }
 
-rose_after : (a b c : ℕ) → a ≤ b → Rose b c → Rose a c
+pub rose_after : (a b c : ℕ) → a ≤ b → Rose b c → Rose a c
 rose_after a b c le h = omega arith
 
 cut_join : (s t u : SinkState) (a b : List ℕ) → Appended s t a → Cut t u b → Cut s u (a ++ b)
@@ -48,13 +48,18 @@ writes_join : (s t u : SinkState) (a b : List ℕ) (r : Result (Unit {0}) SinkFa
 writes_join s t u a b (Ok x) h k = appended_join s t u a b h k
 writes_join s t u a b (Err e) h k = cut_join s t u a b h k
 
-bytes_same : (o : Option (List ℕ)) → o ≡ option_map (λ bs. bs ++ []) o
+pub bytes_same : (o : Option (List ℕ)) → o ≡ option_map (λ bs. bs ++ []) o
 bytes_same None = refl
 bytes_same (Some bs) = ap (λ (x : List ℕ). Some x) (sym (append-nil bs))
 
-number_same : (o : Option ℕ) → o ≡ option_map (λ n. more n 0) o
+pub number_same : (o : Option ℕ) → o ≡ option_map (λ n. more n 0) o
 number_same None = refl
 number_same (Some n) = ap (λ (x : ℕ). Some x) (omega arith)
+
+-- a sink that tells its bytes tells their number, with more behind them
+pub tells_more : (bytes : Option (List ℕ)) (number : Option ℕ) (held : List ℕ) → TellsNumber bytes number → TellsNumber (option_map (λ bs. bs ++ held) bytes) (option_map (λ n. more n (length held)) number)
+tells_more None number held h = tt
+tells_more (Some bs) number held h = ap (option_map (λ n. more n (length held))) h ∙ ap (λ (x : ℕ). Some x) (omega (arith, length-append bs held))
 
 pub appended_nothing : (s : SinkState) → Appended s s []
 appended_nothing s = record { bytes = bytes_same s.bytes; number = number_same s.number; faults = omega arith }

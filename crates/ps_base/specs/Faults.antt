@@ -27,3 +27,6 @@ number_of (faults.InlineSpent place) = 15
 number_of (faults.TooWide n place) = 15
 number_of (faults.CodeSpent n) = 16
 number_of (faults.NotBuilt place) = 17
+number_of (faults.CText place) = 18
+number_of (faults.ShowDeep place) = 19
+number_of (faults.ShowLong n) = 19

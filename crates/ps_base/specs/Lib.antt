@@ -6,3 +6,4 @@ pub mod SinkStates
 pub mod Sinks
 pub mod Logs
 pub mod Texts
+pub mod Wording

@@ -26,7 +26,7 @@ pub record Log : Type 0 where
 
 -- what the sink shows of itself
 abbrev pub log_shows : Log → SinkState
-log_shows log = record { bytes = Some log.taken; number = Some (more 0 (length log.taken)); faults = log.faults }
+log_shows log = record { bytes = Some log.taken; number = Some (more 0 (length log.taken)); faults = log.faults; held = 0 }
 
 -- how many bytes more it takes
 abbrev pub room_left : Log → ℕ

@@ -9,6 +9,8 @@ pub record SinkState : Type 0 where
   pub number : Option ℕ
   -- how many faults there were
   pub faults : ℕ
+  -- how many of the bytes that it has taken it holds back
+  pub held : ℕ
 
 -- a sink that tells its bytes tells their number
 abbrev pub TellsNumber : Option (List ℕ) → Option ℕ → Type 0

@@ -31,6 +31,11 @@ abbrev pub Writes : SinkState → SinkState → List ℕ → Result (Unit {0}) S
 Writes old new text (Ok done) = Appended old new text
 Writes old new text (Err fault) = Cut old new text
 
+-- nothing more was taken; nothing is held back any longer, or a fault came
+abbrev pub Flushes : SinkState → SinkState → Result (Unit {0}) SinkFault → Type 0
+Flushes old new (Ok done) = Appended old new [] × (new.held ≡ 0)
+Flushes old new (Err fault) = Appended old new [] × Rose old.faults new.faults
+
 -- Where texts are written one after another and the first fault ends that: from one state and result to the next, the text was added.
 pub record Adds (old : SinkState) (before : Result (Unit {0}) SinkFault) (new : SinkState) (after : Result (Unit {0}) SinkFault) (text : List ℕ) : Type 0 where
   pub holds : (start : SinkState) (front : List ℕ) → Writes start old front before → Writes start new (front ++ text) after

@@ -186,6 +186,12 @@ pub enum Fault {
     CodeSpent(u64),
     /// The text has a form that is not built yet.
     NotBuilt(Place),
+    /// The text is none of the C subset, first shown at this line. Its column is 1.
+    CText(Place),
+    /// A kernel as a text would open too many brackets, first at this place.
+    ShowDeep(Place),
+    /// A kernel as a text would have more than this number of bytes.
+    ShowLong(u64),
 }
 
 /// A fault, or want of memory: all that a call of the compiler can refuse with.
@@ -208,7 +214,7 @@ impl From<NoMemory> for Refusal {
 }
 
 impl Fault {
-    /// The fault's number, from 1 to 17. It is also the status with which the program ends.
+    /// The fault's number, from 1 to 19. It is also the status with which the program ends.
     pub fn number(&self) -> u8
         ensures { result ≡ number_of self.now }
     {
@@ -236,6 +242,9 @@ impl Fault {
             Fault::TooWide(_, _) => 15,
             Fault::CodeSpent(_) => 16,
             Fault::NotBuilt(_) => 17,
+            Fault::CText(_) => 18,
+            Fault::ShowDeep(_) => 19,
+            Fault::ShowLong(_) => 19,
         }
     }
 }

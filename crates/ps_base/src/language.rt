@@ -43,7 +43,7 @@ pub enum Core {
     LetrecSyntax,
 }
 
-/// A primitive, by its name.
+/// A primitive, by its name, or by the record kind and the field that it is for.
 #[derive(Clone, Copy, Debug, PartialEq, Eq)]
 pub enum PrimName {
     /// `+` of two operands
@@ -150,4 +150,12 @@ pub enum PrimName {
     StringEqual,
     /// `vector-length`
     VectorLength,
+    /// The maker of the record kind of this number
+    Maker(u32),
+    /// The predicate of this record kind
+    Predicate(u32),
+    /// The accessor of this record kind and of its field of this number
+    Accessor(u32, u32),
+    /// The modifier of this record kind and of its field of this number
+    Modifier(u32, u32),
 }

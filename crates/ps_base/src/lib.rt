@@ -1,7 +1,8 @@
-//! What every crate of the compiler stands on.
+//! What every crate of the compiler stands on: from texts to their numbers and back, by `Names`, and from pieces of a text to
+//! what a sink has taken, by `put` and `write_all`.
 //!
-//! Lists that contracts see as lists, names, places, limits and faults, the names of special forms and primitives, sinks of
-//! bytes, and one in memory.
+//! Beside these: lists that contracts see as lists, places, limits and faults, the names of special forms and primitives, and a
+//! sink in memory.
 #![tactic(auto)]
 
 mod faults;
@@ -13,11 +14,12 @@ mod memory_sink;
 mod names;
 mod sink;
 mod text;
+mod wording;
 
 pub use faults::{
     Fault, FormKind, ModuleKind, Op, Place, Position, Refusal, SurviveKind, SyntaxKind,
 };
-pub use items::{Boxed, Bytes, Calls, Flags, Items};
+pub use items::{Boxed, Bytes, Calls, Flags, Items, Numbers, Numbers64, Stamps};
 pub use language::{Core, PrimName};
 pub use limits::Limits;
 pub use memory::NoMemory;
@@ -25,6 +27,7 @@ pub use memory_sink::MemorySink;
 pub use names::{Name, Names};
 pub use sink::{Sink, SinkFault, Taken, write_all};
 pub use text::{Style, Written, put, put_all, put_each, put_integer, put_number, put_numbered};
+pub use wording::{op_word_of, put_place};
 
 /// A primitive, by its name.
 pub type Prim = PrimName;

@@ -4,7 +4,7 @@ ghost use Rattle.std.specs.Prelude.{◌≡◌, ℕ, ◌<◌, ◌≤◌, ◌+◌,
 
 use crate::items::Calls;
 use crate::memory::NoMemory;
-use crate::sink::{Sink, Taken};
+use crate::sink::{Sink, SinkFault, Taken};
 use std::alloc::Global;
 use std::marker::Model;
 
@@ -67,8 +67,8 @@ impl MemorySink {
 }
 
 impl Sink for MemorySink {
-    ghost use Rattle.std.specs.Prelude.{◌≡◌, ◌<◌, length, refl};
-    ghost use Rattle.ps_base.specs.Sinks.{Takes};
+    ghost use Rattle.std.specs.Prelude.{◌≡◌, ◌<◌, length, refl, Ok};
+    ghost use Rattle.ps_base.specs.Sinks.{Takes, Flushes};
     ghost use Rattle.ps_base.specs.Logs.{log_shows, next_taken, log_after};
 
     ghost shows = { log_shows };
@@ -96,5 +96,14 @@ impl Sink for MemorySink {
             unreachable!();
         }
         Taken::Bytes(k)
+    }
+
+    /// Nothing is ever held back.
+    fn flush(&mut self) -> Result<(), SinkFault>
+        ensures flushes { Flushes (log_shows self.old) (log_shows self.new) result }
+        ensures answer { result ≡ Ok tt }
+        ensures after { self.new ≡ self.old }
+    {
+        Ok(())
     }
 }

@@ -1,6 +1,7 @@
 //! A table of distinct texts.
 
 ghost use Rattle.std.specs.Prelude.{◌≡◌, ℕ, ◌<◌, ◌≤◌, ◌^◌, List, [], length, slice_get, None, Some, MatchOption, OnErr, IfOk, IsTrue, ◌↔◌};
+ghost use Rattle.ps_base.specs.Limits.{most_numbered};
 ghost use Rattle.ps_base.specs.Names.{AreDistinct, Adds, IsNew, number_of};
 
 use crate::memory::NoMemory;
@@ -83,7 +84,7 @@ impl Names {
     ///
     /// `NoMemory` where the text is new and memory ran out. The table is then as it was.
     pub fn add(&mut self, text: &[u8]) -> Result<Name, NoMemory>
-        requires { length self.old < 4294967295 }
+        requires { length self.old < most_numbered }
         ensures ok { IfOk result (λ name. Adds self.old self.new text.now name.0) }
         ensures distinct { AreDistinct self.new }
         ensures err { OnErr result (self.new ≡ self.old) }

@@ -20,10 +20,10 @@ pub struct SinkFault;
 pub trait Sink {
     ghost use Rattle.std.specs.Prelude.{◌<◌, length};
     ghost use Rattle.ps_base.specs.SinkStates.{SinkState, TellsNumber};
-    ghost use Rattle.ps_base.specs.Sinks.{Takes};
+    ghost use Rattle.ps_base.specs.Sinks.{Takes, Flushes};
 
-    /// What the sink shows of itself: the bytes that it has taken and their number, where it tells them, and a count of
-    /// faults that never falls.
+    /// What the sink shows of itself: the bytes that it has taken and their number, where it tells them, a count of faults
+    /// that never falls, and how many of the bytes it holds back, to hand them on later.
     ghost shows: { Self → SinkState };
 
     /// A sink that tells its bytes tells their number.
@@ -34,6 +34,15 @@ pub trait Sink {
     fn write(&mut self, piece: &[u8]) -> Taken
         requires { 0 < length piece.now }
         ensures { Takes (shows self.old) (shows self.new) piece.now result };
+
+    /// Hands on all that the sink holds back.
+    ///
+    /// # Errors
+    ///
+    /// `SinkFault` where it failed: its count of faults rose or stands at the last number of 64 bits. What was not handed on
+    /// is held back as before.
+    fn flush(&mut self) -> Result<(), SinkFault>
+        ensures { Flushes (shows self.old) (shows self.new) result };
 }
 
 /// Appends all the bytes.

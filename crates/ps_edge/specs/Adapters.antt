@@ -3,6 +3,7 @@ use Rattle.std.specs.Prelude.{ℕ, List, take, Option, None, Result, Ok, Err, na
 use Rattle.std.specs.Io.KnownBytes.{Appends, Consumes, Keeps, IsAtEnd}
 use Rattle.ps_base.specs.Numbers.{more}
 use Rattle.ps_base.specs.SinkStates.{SinkState}
+use Rattle.ps_base.specs.declared.sink.SinkFault.{SinkFault}
 use Rattle.ps_base.specs.declared.sink.Taken.{Taken}
 use Rattle.ps_base.specs.declared.sink.Taken.TheVariants as taken
 use Rattle.ps_edge.specs.SourceStates.{SourceState}
@@ -32,7 +33,7 @@ reading_shows reading = record { left = None; given = reading.given; faults = re
 
 -- what a writer shows of itself as a sink
 abbrev pub writing_shows : {W : Type 0} → Writing W → SinkState
-writing_shows writing = record { bytes = None; number = None; faults = writing.faults }
+writing_shows writing = record { bytes = None; number = None; faults = writing.faults; held = 0 }
 
 -- what it means that a reader answers this: 0 bytes are the end
 abbrev pub piece_read : {E : Type 0} → Result ℕ E → Piece
@@ -66,6 +67,11 @@ abbrev pub read_faults_after : ℕ → Piece → ℕ
 read_faults_after faults (piece.Bytes k) = faults
 read_faults_after faults piece.End = faults
 read_faults_after faults piece.Failed = more faults 1
+
+-- the count of faults after a flush that came to this
+abbrev pub flush_faults_after : ℕ → Result (Unit {0}) SinkFault → ℕ
+flush_faults_after faults (Ok done) = faults
+flush_faults_after faults (Err fault) = more faults 1
 
 -- the count of faults after a call that took this
 abbrev pub write_faults_after : ℕ → Taken → ℕ

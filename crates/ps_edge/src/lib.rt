@@ -5,10 +5,14 @@
 //! writers of std.
 #![tactic(auto)]
 
+mod drop_sink;
+mod gather_sink;
 mod memory_source;
 mod source;
 mod std_io;
 
+pub use drop_sink::DropSink;
+pub use gather_sink::GatherSink;
 pub use memory_source::MemorySource;
 pub use ps_base::{MemorySink, Sink, SinkFault, Taken, write_all};
 pub use source::{Piece, Source, TextFault, read_text};

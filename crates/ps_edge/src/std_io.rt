@@ -5,7 +5,7 @@ ghost use Rattle.ps_base.specs.Numbers.{more};
 ghost use Rattle.ps_edge.specs.Adapters.{piece_read, bytes_taken};
 
 use crate::source::{Piece, Source};
-use ps_base::{Sink, Taken};
+use ps_base::{Sink, SinkFault, Taken};
 use std::io;
 use std::io::{Read, Write};
 use std::marker::Model;
@@ -103,8 +103,9 @@ impl<W> WriterSink<W> {
 
 impl<W: Write> Sink for WriterSink<W> {
     ghost use Rattle.std.specs.Prelude.{◌≡◌, ◌<◌, length};
-    ghost use Rattle.ps_base.specs.Sinks.{Takes};
-    ghost use Rattle.ps_edge.specs.Adapters.{writing_shows, WritesOn, write_faults_after};
+    ghost use Rattle.std.specs.Io.KnownBytes.{Keeps};
+    ghost use Rattle.ps_base.specs.Sinks.{Takes, Flushes};
+    ghost use Rattle.ps_edge.specs.Adapters.{writing_shows, WritesOn, write_faults_after, flush_faults_after};
 
     ghost shows = { writing_shows };
 
@@ -123,6 +124,21 @@ impl<W: Write> Sink for WriterSink<W> {
             self.faults = raised(self.faults, 1);
         }
         taken
+    }
+
+    /// Flushes the writer. An error is a fault. This sink itself holds nothing back.
+    fn flush(&mut self) -> Result<(), SinkFault>
+        ensures flushes { Flushes (writing_shows self.old) (writing_shows self.new) result }
+        ensures writer { Keeps (W.contents self.old.writer) (W.contents self.new.writer) }
+        ensures faults { self.new.faults ≡ flush_faults_after self.old.faults result }
+    {
+        match self.writer.flush() {
+            Ok(()) => Ok(()),
+            Err(_) => {
+                self.faults = raised(self.faults, 1);
+                Err(SinkFault)
+            }
+        }
     }
 }
 

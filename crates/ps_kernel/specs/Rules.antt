@@ -1,5 +1,7 @@
 -- What is right of a mark of a text, and what the marks of a text say together.
 use Rattle.std.specs.Prelude.{ℕ, suc, nat_lt, Bool, true, false, ◌||◌, ◌==◌, List, [], ◌∷◌, length, Option, Some, None, slice_get}
+use Rattle.ps_base.specs.declared.language.PrimName.{PrimName}
+use Rattle.ps_base.specs.declared.language.PrimName.TheVariants as prims
 use Rattle.ps_prims.specs.Sorts.{first_order}
 use Rattle.ps_prims.specs.Rows.{row}
 use Rattle.ps_types.specs.declared.types.RecordKind.{RecordKind}
@@ -18,9 +20,17 @@ abbrev pub fields_in : Option RecordKind → ℕ
 fields_in None = 0
 fields_in (Some kind) = length kind.fields
 
+-- the primitive has a row of its own: the operations on records stand in a kernel as such
+abbrev pub has_row : PrimName → Bool
+has_row (prims.Maker r) = false
+has_row (prims.Predicate r) = false
+has_row (prims.Accessor r f) = false
+has_row (prims.Modifier r f) = false
+has_row p = true
+
 -- the kinds and fields of an operation are there
 abbrev pub operation_known : List RecordKind → Operation → Bool
-operation_known kinds (o.Named p) = true
+operation_known kinds (o.Named p) = has_row p
 operation_known kinds (o.Maker r) = nat_lt r (length kinds)
 operation_known kinds (o.Predicate r) = nat_lt r (length kinds)
 operation_known kinds (o.Accessor r f) = field_known f (slice_get kinds r)

@@ -164,6 +164,11 @@ module _ {V : Type 0} (values : Values V) where
   abbrev pub test : (ℤ → Bool) → Row V
   test f = record { operands = Integer ∷ []; answer = Boolean; stages = Both; does = λ i. gives (f i) }
 
+  -- nothing to unit
+  abbrev pub unspecific : Row V
+  unspecific = record { operands = []; answer = Unit'; stages = Both; does = gives tt }
+
+  -- The operations on records have no rows of their own yet, and stand here as `unspecific`; no valid kernel holds one by its name.
   abbrev pub row : PrimName → Row V
   row prims.Add = arithmetic (λ i j. fitting ops.Overflow (i +ℤ j))
   row prims.Subtract = arithmetic (λ i j. fitting ops.Overflow (i -ℤ j))
@@ -192,7 +197,7 @@ module _ {V : Type 0} (values : Values V) where
   row prims.CharLess = record { operands = Char ∷ Char ∷ []; answer = Boolean; stages = Both; does = λ c d. gives (nat_lt c d) }
   row prims.CharToAscii = record { operands = Char ∷ []; answer = Integer; stages = Both; does = λ c. gives (pos c) }
   row prims.AsciiToChar = record { operands = Integer ∷ []; answer = Char; stages = Both; does = λ i. answers (char_of i) }
-  row prims.Unspecific = record { operands = []; answer = Unit'; stages = Both; does = gives tt }
+  row prims.Unspecific = unspecific
   row prims.StringLength = record { operands = Text ∷ []; answer = Integer; stages = Both; does = λ p. finds (λ m. store.text_length m p) (λ n. events.Length p n ∷ []) }
   row prims.StringRef = record { operands = Text ∷ Integer ∷ []; answer = Char; stages = Both; does = λ p k. finds (λ m. and_then (store.text_at m p k) char_of) (λ c. events.Load (plus p k) (pos c) ∷ []) }
   row prims.MakeVector = record { operands = Integer ∷ Any ∷ []; answer = Vector; stages = Both; does = λ n x. vector_of values.word n x }
@@ -217,6 +222,10 @@ module _ {V : Type 0} (values : Values V) where
   row prims.StringAppend = record { operands = Text ∷ Text ∷ []; answer = Text; stages = CompileOnly; does = λ p q. appended p q }
   row prims.StringEqual = record { operands = Text ∷ Text ∷ []; answer = Boolean; stages = CompileOnly; does = λ p q. finds (λ m. equal_texts m p q) unseen }
   row prims.VectorLength = record { operands = Vector ∷ []; answer = Integer; stages = CompileOnly; does = λ p. finds (λ m. store.cell_count m p) unseen }
+  row (prims.Maker k) = unspecific
+  row (prims.Predicate k) = unspecific
+  row (prims.Accessor k f) = unspecific
+  row (prims.Modifier k f) = unspecific
 
 -- ---- performing
 

@@ -139,5 +139,9 @@ pub fn group_of(p: Prim) -> Group
         Prim::StringAppend => Group::Make(Make::String),
         Prim::StringEqual => Group::Make(Make::StringEqual),
         Prim::VectorLength => Group::Glance(Glance::VectorLength),
+        Prim::Maker(_) => Group::Plain(Plain::Unspecific),
+        Prim::Predicate(_) => Group::Plain(Plain::Unspecific),
+        Prim::Accessor(_, _) => Group::Plain(Plain::Unspecific),
+        Prim::Modifier(_, _) => Group::Plain(Plain::Unspecific),
     }
 }

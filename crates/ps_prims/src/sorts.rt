@@ -84,6 +84,10 @@ pub fn operands_of(p: Prim) -> &'static [Sort]
         Prim::StringAppend => &[Sort::Text, Sort::Text],
         Prim::StringEqual => &[Sort::Text, Sort::Text],
         Prim::VectorLength => &[Sort::Vector],
+        Prim::Maker(_) => &[],
+        Prim::Predicate(_) => &[],
+        Prim::Accessor(_, _) => &[],
+        Prim::Modifier(_, _) => &[],
     }
 }
 
@@ -144,5 +148,9 @@ pub fn answer_of(p: Prim) -> Sort
         Prim::StringAppend => Sort::Text,
         Prim::StringEqual => Sort::Boolean,
         Prim::VectorLength => Sort::Integer,
+        Prim::Maker(_) => Sort::Unit,
+        Prim::Predicate(_) => Sort::Unit,
+        Prim::Accessor(_, _) => Sort::Unit,
+        Prim::Modifier(_, _) => Sort::Unit,
     }
 }

@@ -65,6 +65,10 @@ pub fn stages_of(p: Prim) -> Stages
         Prim::StringAppend => Stages::CompileOnly,
         Prim::StringEqual => Stages::CompileOnly,
         Prim::VectorLength => Stages::CompileOnly,
+        Prim::Maker(_) => Stages::Both,
+        Prim::Predicate(_) => Stages::Both,
+        Prim::Accessor(_, _) => Stages::Both,
+        Prim::Modifier(_, _) => Stages::Both,
     }
 }
 

@@ -2,14 +2,13 @@
 use Rattle.std.specs.Prelude.{ℕ, List, [], Option, None, Some, slice_get, codes, decimal}
 use Rattle.ps_base.specs.Texts.{◌&◌}
 use Rattle.ps_base.specs.Faults.{number_of}
+use Rattle.ps_base.specs.Wording.{op_word, place_text}
 use Rattle.ps_base.specs.declared.faults.Fault.{Fault}
 use Rattle.ps_base.specs.declared.faults.Fault.TheVariants as faults
 use Rattle.ps_base.specs.declared.faults.Place.{Place}
 use Rattle.ps_base.specs.declared.names.Name.{Name}
 use Rattle.psc.specs.declared.answer.Answer.{Answer}
 use Rattle.psc.specs.declared.answer.Answer.TheVariants as answers
-use Rattle.ps_base.specs.declared.faults.Op.{Op}
-use Rattle.ps_base.specs.declared.faults.Op.TheVariants as ops
 use Rattle.ps_base.specs.declared.faults.SyntaxKind.{SyntaxKind}
 use Rattle.ps_base.specs.declared.faults.SyntaxKind.TheVariants as syntaxes
 use Rattle.ps_base.specs.declared.faults.ModuleKind.{ModuleKind}
@@ -22,18 +21,6 @@ use Rattle.ps_base.specs.declared.faults.Position.{Position}
 use Rattle.ps_base.specs.declared.faults.Position.TheVariants as positions
 
 -- ---- the words of kinds: a variant's words in small letters, joined by `-`
-
-unfoldable pub op_word : Op → List ℕ
-op_word ops.Overflow = codes "overflow"
-op_word ops.Division = codes "division"
-op_word ops.Shift = codes "shift"
-op_word ops.Char = codes "char"
-op_word ops.Byte = codes "byte"
-op_word ops.Size = codes "size"
-op_word ops.Bounds = codes "bounds"
-op_word ops.Unset = codes "unset"
-op_word ops.Freed = codes "freed"
-op_word ops.Blocks = codes "blocks"
 
 unfoldable pub syntax_word : SyntaxKind → List ℕ
 syntax_word syntaxes.BadToken = codes "bad-token"
@@ -81,10 +68,6 @@ position_word positions.Assigned = codes "assigned"
 position_word positions.Ignored = codes "ignored"
 
 -- ---- lines
-
--- file, line and column
-unfoldable pub place_text : Place → List ℕ
-place_text p = decimal p.file & codes ":" & decimal p.line & codes ":" & decimal p.column
 
 unfoldable pub at_place : List ℕ → Place → List ℕ
 at_place words p = words & place_text p
@@ -134,6 +117,9 @@ fault_text names (faults.InlineSpent p) = at_place (codes "15 inline-spent ") p
 fault_text names (faults.TooWide n p) = width_text n p
 fault_text names (faults.CodeSpent n) = with_number (codes "16 code-spent ") n
 fault_text names (faults.NotBuilt p) = at_place (codes "17 not-built ") p
+fault_text names (faults.CText p) = at_place (codes "18 c-text ") p
+fault_text names (faults.ShowDeep p) = at_place (codes "19 show-deep ") p
+fault_text names (faults.ShowLong n) = with_number (codes "19 show-long ") n
 
 -- the line of an answer; Done has none
 unfoldable pub answer_line : List (List ℕ) → Answer → List ℕ

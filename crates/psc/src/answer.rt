@@ -16,7 +16,7 @@ pub enum Answer {
     NoMemory,
 }
 
-/// The status that the program ends with: 0 for `Done`, the fault's number, from 1 to 17, or 20 for want of memory.
+/// The status that the program ends with: 0 for `Done`, the fault's number, from 1 to 19, or 20 for want of memory.
 pub fn status_of(answer: &Answer) -> u8
     ensures { result ≡ status answer.now }
 {

@@ -1,27 +1,9 @@
 //! The words of faults, as their lines print them: a variant's words in small letters, joined by `-`.
 
 ghost use Rattle.std.specs.Prelude.{◌≡◌};
-ghost use Rattle.psc.specs.Lines.{op_word, syntax_word, module_word, form_word, survive_word, position_word};
+ghost use Rattle.psc.specs.Lines.{syntax_word, module_word, form_word, survive_word, position_word};
 
-use ps_base::{FormKind, ModuleKind, Op, Position, SurviveKind, SyntaxKind};
-
-#[tactic(auto, unfolding(crate::specs::Lines::op_word))]
-pub fn op_word_of(op: Op) -> &'static [u8]
-    ensures { result.now ≡ op_word op }
-{
-    match op {
-        Op::Overflow => b"overflow",
-        Op::Division => b"division",
-        Op::Shift => b"shift",
-        Op::Char => b"char",
-        Op::Byte => b"byte",
-        Op::Size => b"size",
-        Op::Bounds => b"bounds",
-        Op::Unset => b"unset",
-        Op::Freed => b"freed",
-        Op::Blocks => b"blocks",
-    }
-}
+use ps_base::{FormKind, ModuleKind, Position, SurviveKind, SyntaxKind};
 
 #[tactic(auto, unfolding(crate::specs::Lines::syntax_word))]
 pub fn syntax_word_of(kind: SyntaxKind) -> &'static [u8]

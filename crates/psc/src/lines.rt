@@ -3,24 +3,16 @@
 ghost use Rattle.std.specs.Prelude.{◌≡◌, ℕ, List, decimal, codes};
 ghost use Rattle.ps_base.specs.Sinks.{Adds, Writes};
 ghost use Rattle.ps_base.specs.Texts.{◌&◌};
-ghost use Rattle.psc.specs.Lines.{place_text, at_place, of_kind, with_number, name_text, definition_text, width_text, fault_text, answer_line};
+ghost use Rattle.ps_base.specs.Wording.{place_text};
+ghost use Rattle.psc.specs.Lines.{at_place, of_kind, with_number, name_text, definition_text, width_text, fault_text, answer_line};
 
 use crate::answer::Answer;
 use crate::kinds::{
-    form_word_of, module_word_of, op_word_of, position_word_of, survive_word_of, syntax_word_of,
+    form_word_of, module_word_of, position_word_of, survive_word_of, syntax_word_of,
 };
-use ps_base::{Fault, Name, Names, Place, Sink, SinkFault, Written, put, put_number};
-
-#[tactic(auto, using(ps_base::proofs::Writing::adds_then), unfolding(crate::specs::Lines::place_text))]
-fn put_place<O: Sink>(out: &mut O, so_far: Written, place: Place) -> Written
-    ensures { Adds (O.shows out.old) so_far (O.shows out.new) result (place_text place) }
-{
-    let so_far = put_number(out, so_far, place.file as u64);
-    let so_far = put(out, so_far, b":");
-    let so_far = put_number(out, so_far, place.line as u64);
-    let so_far = put(out, so_far, b":");
-    put_number(out, so_far, place.column as u64)
-}
+use ps_base::{
+    Fault, Name, Names, Place, Sink, SinkFault, Written, op_word_of, put, put_number, put_place,
+};
 
 #[tactic(auto, using(ps_base::proofs::Writing::adds_then), unfolding(crate::specs::Lines::at_place))]
 fn put_at_place<O: Sink>(out: &mut O, so_far: Written, words: &[u8], place: Place) -> Written
@@ -135,6 +127,9 @@ fn put_fault<O: Sink>(out: &mut O, so_far: Written, names: &Names, fault: Fault)
         Fault::TooWide(n, p) => put_width(out, so_far, n, p),
         Fault::CodeSpent(n) => put_with_number(out, so_far, b"16 code-spent ", n),
         Fault::NotBuilt(p) => put_at_place(out, so_far, b"17 not-built ", p),
+        Fault::CText(p) => put_at_place(out, so_far, b"18 c-text ", p),
+        Fault::ShowDeep(p) => put_at_place(out, so_far, b"19 show-deep ", p),
+        Fault::ShowLong(n) => put_with_number(out, so_far, b"19 show-long ", n),
     }
 }
 
