@@ -1,4 +1,4 @@
-//! Names in a table, the numbers of faults, the standard limits, and pieces of a text into a sink that fails in
+//! Names in a table, the standard limits, and pieces of a text into a sink that fails in
 //! mid-stream.
 
 ghost use Rattle.std.specs.Prelude.{◌<◌, ◌^◌, length, decimal};
@@ -34,63 +34,23 @@ fn numbers_texts_in_order(rt: HostRuntime) -> Result<(), Fail> {
 }
 
 #[test]
-fn each_fault_has_its_number(rt: HostRuntime) {
-    let place = Place {
-        file: 1,
-        line: 2,
-        column: 3,
-    };
-    let table = [
-        (Fault::Usage(9), 1),
-        (Fault::Source, 2),
-        (Fault::Sink, 3),
-        (Fault::Library(9), 4),
-        (Fault::TooLong(9), 5),
-        (Fault::Syntax(SyntaxKind::BadToken, place), 6),
-        (Fault::Module(ModuleKind::NoMain, place), 7),
-        (Fault::Form(FormKind::Arity, place), 8),
-        (Fault::ExpansionSpent(99), 9),
-        (Fault::CoreSpent(99), 9),
-        (Fault::StaticWrong(place), 10),
-        (Fault::StaticUndefined(Op::Overflow, place), 10),
-        (Fault::StaticRunOnly(place), 10),
-        (Fault::BudgetSpent(99), 11),
-        (Fault::CellsSpent(99), 11),
-        (Fault::Survives(SurviveKind::MainMissing, place), 12),
-        (Fault::TypeFault(Name(1), Name(2), place), 13),
-        (Fault::Unresolved(Position::Branch, place), 14),
-        (Fault::KeysSpent(99), 15),
-        (Fault::InlineSpent(place), 15),
-        (Fault::TooWide(128, place), 15),
-        (Fault::CodeSpent(99), 16),
-        (Fault::NotBuilt(place), 17),
-    ];
-    for (fault, number) in table {
-        assert_eq!(rt; fault.number(), number, "{fault:?}");
-    }
-    assert_eq!(rt; Refusal::from(NoMemory), Refusal::NoMemory);
-}
-
-#[test]
 fn standard_limits(rt: HostRuntime) {
-    let limits = Limits::standard();
-    let table = [
-        (limits.text_bytes, 4 * 1024 * 1024),
-        (limits.all_bytes, 16 * 1024 * 1024),
-        (limits.transcriptions, 100_000),
-        (limits.transcribed, 10_000_000),
-        (limits.nodes, 1_000_000),
-        (limits.depth, 1_000),
-        (limits.budget, 1_000_000),
-        (limits.cells, 16_000_000),
-        (limits.keys, 4_096),
-        (limits.nested, 200),
-        (limits.leaves, 127),
-        (limits.code, 2_000_000),
-    ];
-    for (limit, want) in table {
-        assert_eq!(rt; limit, want);
-    }
+    let limits = Limits {
+        text_bytes: 4 * 1024 * 1024,
+        all_bytes: 16 * 1024 * 1024,
+        transcriptions: 100_000,
+        transcribed: 10_000_000,
+        nodes: 1_000_000,
+        depth: 1_000,
+        budget: 1_000_000,
+        cells: 16_000_000,
+        keys: 4_096,
+        nested: 200,
+        leaves: 127,
+        code: 2_000_000,
+    };
+    assert_eq!(rt; Limits::standard(), limits);
+    assert_eq!(rt; Refusal::from(NoMemory), Refusal::NoMemory);
 }
 
 // A sink of at most two bytes a call. The call of this number fails, and then it goes on.
