@@ -1,4 +1,5 @@
 -- Tables of texts over an index set.
+-- For: Names::add, Names::find
 use Rattle.std.proofs.Common.{◌≡◌, ℕ, zero, suc, ◌+◌, List, [], ◌∷◌, ◌++◌, length, map, Some, refl, sym, ap, ◌∙◌, subst, arith, Bool, true, false, not, cond, ◌||◌, ◌⊎◌, inl, inr, ⊎_elim}
 use Rattle.std.proofs.Common.{Vec, Global}
 use Rattle.std.specs.Prelude.{slice_get, nat_lt, if◌then◌else◌, None, ◌<◌}
@@ -7,11 +8,8 @@ use Rattle.std.specs.List.{list_any, find, position_or_len, position}
 use Rattle.std.proofs.lemmas.Bool.{ltb-true, lt-ltb}
 use Rattle.std.specs.Str.{bytes_eq}
 use Rattle.std.proofs.lemmas.Slice.Eq.{bytes_eq-Decides}
+use Rattle.ps_base.proofs.Choices.{true_or_false, or_false}
 use Rattle.ps_base.specs.Names.{AreDistinct, IsNew, number_of}
-
-pub true_or_false : (b : Bool) → (b ≡ true) ⊎ (b ≡ false)
-true_or_false true = inl refl
-true_or_false false = inr refl
 
 -- what is found passes the test
 pub find-passes : {X : Type 0} (p : X → Bool) (xs : List X) (x : X) → find p xs ≡ Some x → p x ≡ true
@@ -33,22 +31,18 @@ none-passes p (y ∷ xs) h =
     ap (λ t. cond (not t) (1 + position_or_len p xs) 0) no ∙ omega (arith, rest))
     (true_or_false (p y))
 
-or-false : (a b : Bool) → (a || b) ≡ false → (a ≡ false) × (b ≡ false)
-or-false true b h = cc
-or-false false b h = (refl, h)
-
 -- a text that no member equals is new
 pub none-new : (keys : List (Vec ℕ Global)) (text : List ℕ) → list_any (λ k. bytes_eq text k.items) keys ≡ false → IsNew (map (λ k. k.items) keys) text
 none-new [] text h zero e = cc
 none-new [] text h (suc i) e = cc
 none-new (k ∷ keys) text h zero e =
-    let parts = or-false (bytes_eq text k.items) (list_any (λ k. bytes_eq text k.items) keys) h in
+    let parts = or_false (bytes_eq text k.items) (list_any (λ k. bytes_eq text k.items) keys) h in
     let same : text ≡ k.items = cc in
     let yes = (bytes_eq-Decides text k.items).1 same in
     let no = parts.0 in
     cc
 none-new (k ∷ keys) text h (suc i) e =
-    let parts = or-false (bytes_eq text k.items) (list_any (λ k. bytes_eq text k.items) keys) h in
+    let parts = or_false (bytes_eq text k.items) (list_any (λ k. bytes_eq text k.items) keys) h in
     none-new keys text parts.1 i e
 
 front-or-last : (xs : List (List ℕ)) (y t : List ℕ) (i : ℕ) → slice_get (xs ++ y ∷ []) i ≡ Some t → (slice_get xs i ≡ Some t) ⊎ ((i ≡ length xs) × (t ≡ y))

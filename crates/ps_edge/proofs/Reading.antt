@@ -1,4 +1,5 @@
 -- One text is read after another.
+-- For: read_text
 use Rattle.std.proofs.Common.{◌≡◌, ℕ, ◌+◌, ◌≤◌, List, [], ◌++◌, length, Option, Some, None, Result, Ok, Err, refl, sym, ap, ◌∙◌, append_assoc, arith, length-append}
 use Rattle.std.specs.Option.{option_map}
 use Rattle.ps_base.specs.Numbers.{more}
