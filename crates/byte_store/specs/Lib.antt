@@ -2,10 +2,11 @@ pub mod Words
 pub mod Worlds
 pub mod Outcome
 pub mod Agree
+pub mod Laws
 pub mod Machine
 pub mod Blocks
 pub mod Operations
 pub mod Store
 pub mod Inside
 pub mod Lines
-pub mod Parts
+pub mod InsideLines

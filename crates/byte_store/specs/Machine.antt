@@ -1,4 +1,4 @@
--- A machine of small steps, whatever its states are, and its runs.
+-- A machine of small steps, whatever its states are, and its runs (this project's own).
 use Rattle.std.specs.Prelude.{◌≡◌, ℕ, zero, suc, List, nat_lt, cond}
 use Rattle.byte_store.specs.declared.event.Event.{Event}
 use Rattle.byte_store.specs.Outcome.{Outcome, Outcomes, End, Running, Begins}
@@ -37,8 +37,3 @@ machine_run M s n = run_from M n 0 s
 -- a step only adds events
 pub record OnlyAdds {S : Type 0} (M : Machine S) : Type 0 where
   pub by : (s t : S) → M.step s ≡ Goes t → Begins (M.events s) (M.events t)
-
--- j steps lead from s to t
-abbrev pub Steps : {S : Type 0} → Machine S → ℕ → S → S → Type 0
-Steps M zero s t = s ≡ t
-Steps {S} M (suc j) s t = (u : S) × (M.step s ≡ Goes u) × Steps M j u t

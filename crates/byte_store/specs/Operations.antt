@@ -1,9 +1,15 @@
 -- The operations of a store (after C99 6.2.4, 6.5.6 and 7.20.3 in outline; this project's own).
 --
--- An operation that has no meaning answers `Err` with its cause. For an access the first of these that holds is the cause:
--- null is `Bounds`; a freed block is `Freed`; a byte, word or cell that is not wholly inside the block is `Bounds`, and so
--- is a byte in a block of cells and a cell in a block of bytes; what was never set is `Unset`. An access, a move or a freeing by
--- a base that the store has not is told as one by null; comparisons look at bases and offsets alone.
+-- An operation is a function of the store, a pointer and what else it is given: it answers what it finds, or the store that it leaves.
+-- One that has no meaning answers `Err` with its cause, and the first of these that holds is the cause.
+--   An access or a move: null, or a base that the store has not, is `Bounds`; a freed block is `Freed`; what is not wholly inside the
+--   block is `Bounds`, and so is a byte in a block of cells and a cell in a block of bytes; what was never set is `Unset`. Before all of
+--   these, what is to be put as a byte and is none is `Byte`; behind those of its length, the index in a string is `Bounds`.
+--   A distance or an order: null is `Bounds`; a freed block is `Freed`; two blocks are `Blocks`.
+--   Whether two pointers are the same, or one is null: a freed block is `Freed`; two blocks, where one pointer is its block's end, are
+--   `Blocks`. In all comparisons a base that the store has not is one of a block that was not freed and has no end.
+--   A freeing: what is not the start of a made block is `Bounds`; a freed block is `Freed`.
+--   An allocation: a number of bytes or cells that no block has is `Size`.
 use Rattle.std.specs.Prelude.{ℕ, ℤ, pos, negsuc, zero, suc, ◌+ℤ◌, ◌-ℤ◌, List, [], ◌∷◌, ◌++◌, length, map, take, replicate, Bool, true, false, ◌||◌, ◌&&◌, nat_le, nat_lt, int_lt, if◌then◌else◌, Option, Some, None, Result, Ok, Err}
 use Rattle.std.specs.Ordering.{int_eq}
 use Rattle.std.specs.Int.{w64, from_le_bytes, to_le_bytes, cast_signed, cast_unsigned}
@@ -144,7 +150,9 @@ module _ {C : Type 0} where
   -- the two are one block, and it is live
   abbrev pub together : Memory C → Base → Base → Result (Unit {0}) Op
   together m a b =
-      if is_freed_block (block_of m a) || is_freed_block (block_of m b) then Err ops.Freed else if is_same_base a b then Ok tt else Err ops.Blocks
+      if is_freed_block (block_of m a) || is_freed_block (block_of m b) then Err ops.Freed
+      else if is_same_base a b then Ok tt
+      else Err ops.Blocks
 
 module _ {C A : Type 0} where
   -- what is seen at a pointer
@@ -246,7 +254,11 @@ pub record Allocation (C : Type 0) : Type 0 where
 module _ {C : Type 0} where
   -- one grant is used; granted, the block is the next made one, and refused, the pointer is null
   abbrev pub granted : Memory C → Surroundings → Block C → Bool → Allocation C
-  granted m w b true = record { memory = record m { made = m.made ++ b ∷ [] }; world = record w { grants = rest_of w.grants }; pointer = At (Made (length m.made)) (pos 0) }
+  granted m w b true = record {
+    memory = record m { made = m.made ++ b ∷ [] };
+    world = record w { grants = rest_of w.grants };
+    pointer = At (Made (length m.made)) (pos 0);
+  }
   granted m w b false = record { memory = m; world = record w { grants = rest_of w.grants }; pointer = Null }
 
   -- a block that is made from its number of bytes or cells

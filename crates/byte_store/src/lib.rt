@@ -1,5 +1,8 @@
-//! The memory of a program and the world that it runs in: blocks and pointers, what is seen from outside, and the laws of
-//! runs, which say what it means that two of them agree.
+//! The memory of a program and the world that it runs in. From a store and a world to what an operation answers and leaves,
+//! by the calls of `Store` and `World` (specs/Operations.antt, specs/Worlds.antt).
+//! From an event to its line, by `write_event` (specs/Lines.antt).
+//! The laws of runs, which say what it means that two of them agree, are contracts of calls that do nothing
+//! (specs/Agree.antt, specs/Laws.antt).
 #![tactic(auto)]
 
 mod accesses;

@@ -5,7 +5,7 @@ ghost use Rattle.std.specs.Prelude.{◌≡◌, ◌<◌, codes, length, map};
 ghost use Rattle.ps_base.specs.Sinks.{Adds, Writes};
 ghost use Rattle.ps_base.specs.Texts.{◌&◌};
 ghost use Rattle.byte_store.specs.Lines.{base_text, place_text, block_text, pointer_text, made_text, known_text, word_text, input_text, line, event_line};
-ghost use Rattle.byte_store.specs.Parts.{part_text};
+ghost use Rattle.byte_store.specs.InsideLines.{part_text};
 
 use crate::event::Event;
 use crate::pointer::{Base, Pointer, Word};

@@ -1,7 +1,7 @@
 //! The laws of runs: what it means that two of them agree, and how that is shown. Each law is the contract of a function
 //! that does nothing.
 
-ghost use Rattle.byte_store.specs.Agree.{AgreeIsTransitive, AgreeWhereDefined, FollowingGivesAgree, FollowingGivesShallow, GrowingKeeps, ProgressGivesAgree, SameEachAgrees, ShallowComposes, ShallowSoFarComposes};
+ghost use Rattle.byte_store.specs.Laws.{AgreeIsTransitive, AgreeWhereDefined, FollowingGivesAgree, FollowingGivesShallow, GrowingKeeps, ProgressGivesAgree, SameEachAgrees, ShallowComposes, ShallowSoFarComposes};
 
 /// To agree is transitive.
 pub fn agree_is_transitive()

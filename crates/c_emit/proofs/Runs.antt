@@ -3,12 +3,13 @@ use Rattle.std.proofs.Common.{◌≡◌, ℕ, ℤ, zero, suc, ◌+◌, ◌≤◌
 use Rattle.std.specs.Prelude.{slice_get}
 use Rattle.std.proofs.lemmas.List.{length-replicate}
 use Rattle.ps_base.specs.declared.faults.Op.TheVariants.{Unset}
-use Rattle.byte_store.specs.Agree.{Agree, Shallow, FollowsLow, Matches}
+use Rattle.byte_store.specs.Agree.{Agree, Shallow}
+use Rattle.byte_store.specs.Laws.{FollowsLow, Matches}
 use Rattle.byte_store.specs.Machine.{Move, Ends as Halts, greater, outcome_at, after_move, run_from}
 use Rattle.byte_store.specs.Outcome.{Outcome, Returned, Running, Wrong}
 use Rattle.byte_store.specs.Worlds.{Surroundings}
-use Rattle.byte_store.proofs.Following.{following_agrees, following_shallow}
-use Rattle.byte_store.proofs.Greater.{greater_le}
+use Rattle.byte_store.proofs.FollowingAgrees.{following_agrees, following_shallow}
+use Rattle.byte_store.proofs.GreaterIsLeast.{greater_le}
 use Rattle.ps_plain.specs.declared.program.Procedure.{Procedure}
 use Rattle.ps_plain.specs.declared.program.Program.{Program}
 use Rattle.ps_plain.specs.Run as source

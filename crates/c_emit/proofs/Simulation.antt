@@ -5,9 +5,9 @@ use Rattle.std.specs.Prelude.{slice_set}
 use Rattle.ps_base.specs.declared.faults.Op.{Op}
 use Rattle.ps_base.specs.declared.faults.Place.{Place}
 use Rattle.byte_store.specs.Outcome.{Outcome, End, Running, Undefined, Stuck}
-use Rattle.byte_store.specs.Agree.{Matches}
+use Rattle.byte_store.specs.Laws.{Matches}
 use Rattle.byte_store.specs.Machine.{Move, Goes as Moves, Ends as Halts, greater, outcome_at, after_move, run_from}
-use Rattle.byte_store.proofs.Greater.{greater_le}
+use Rattle.byte_store.proofs.GreaterIsLeast.{greater_le}
 use Rattle.ps_plain.specs.Run as source
 use Rattle.ps_plain.specs.Run.{Step, Goes, Stops, and_then}
 use Rattle.c_ast.specs.declared.unit.Atom.{Atom}

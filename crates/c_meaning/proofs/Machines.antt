@@ -6,11 +6,11 @@ use Rattle.ps_base.specs.declared.faults.Op.TheVariants.{Overflow, Byte, Unset}
 use Rattle.byte_store.specs.declared.event.Event.TheVariants.{Input, Output}
 use Rattle.ps_base.specs.Numbers.{fit, byte_of}
 use Rattle.byte_store.specs.Outcome.{Begins}
-use Rattle.byte_store.specs.Agree.{Deepens}
+use Rattle.byte_store.specs.Laws.{Deepens}
 use Rattle.byte_store.specs.Machine.{Move, Goes, Ends, OnlyAdds}
 use Rattle.byte_store.specs.Worlds.{Surroundings, next_byte}
-use Rattle.byte_store.proofs.Fronts.{begins_self}
-use Rattle.byte_store.proofs.Machine.{machine_keeps, machine_deepens}
+use Rattle.byte_store.proofs.FrontsCompose.{begins_self}
+use Rattle.byte_store.proofs.MachinesKeepWhatTheyHave.{machine_keeps, machine_deepens}
 use Rattle.c_ast.specs.declared.unit.CFunction.{CFunction}
 use Rattle.c_ast.specs.declared.unit.CUnit.{CUnit}
 use Rattle.c_ast.specs.declared.unit.Statement.{Statement}

@@ -5,9 +5,9 @@ use Rattle.ps_base.specs.declared.faults.Place.{Place}
 use Rattle.byte_store.specs.declared.pointer.Value.{Value}
 use Rattle.byte_store.specs.Outcome.{Outcome, Returned, Running, Undefined, Stuck, Wrong, StoppedAtCells, Begins}
 use Rattle.byte_store.specs.Worlds.{Surroundings}
-use Rattle.byte_store.specs.Agree.{Grows}
-use Rattle.byte_store.proofs.Fronts.{begins_eq}
-use Rattle.byte_store.proofs.Following.{growing_keeps}
+use Rattle.byte_store.specs.Laws.{Grows}
+use Rattle.byte_store.proofs.FrontsCompose.{begins_eq}
+use Rattle.byte_store.proofs.FollowingAgrees.{growing_keeps}
 use Rattle.ps_prims.specs.Sorts.{first_order}
 use Rattle.ps_prims.specs.declared.stages.Stage.TheVariants.{Compile, Run as AtRun}
 use Rattle.ps_kernel.specs.declared.kernel.Kernel.{Kernel}

@@ -4,7 +4,7 @@ use Rattle.std.specs.Prelude.{Bool, true, false, nat_le, ◌-◌, if◌then◌el
 use Rattle.ps_base.specs.declared.faults.Place.{Place}
 use Rattle.byte_store.specs.declared.event.Event.{Event}
 use Rattle.byte_store.specs.Outcome.{Returned, Running, Undefined, Stuck, Wrong, StoppedAtCells, Begins}
-use Rattle.byte_store.proofs.Fronts.{begins_self, begins_trans}
+use Rattle.byte_store.proofs.FrontsCompose.{begins_self, begins_trans}
 use Rattle.ps_prims.specs.Rows.{Done, Scene, Performed, Answers}
 use Rattle.ps_prims.specs.Rows as rows
 use Rattle.ps_meaning.specs.Run.{State, Halt, Ends, RunOnly, Step, Goes, Stops, Run, and_then, ◌>>=◌, pure, stop, take_one, take_call, at_depth, get_globals, put_globals, cells_between, pay, take_cells, leave, count_and_leave, came, scene_of}

@@ -5,7 +5,7 @@ use Rattle.std.proofs.lemmas.Bool.{leb-true, le-leb}
 use Rattle.ps_base.specs.declared.faults.Place.{Place}
 use Rattle.byte_store.specs.declared.pointer.Value.{Value}
 use Rattle.byte_store.specs.Outcome.{Outcome, Returned, Running, Undefined, Stuck, Wrong, StoppedAtCells, Begins}
-use Rattle.byte_store.proofs.Fronts.{begins_self, begins_eq, begins_trans}
+use Rattle.byte_store.proofs.FrontsCompose.{begins_self, begins_eq, begins_trans}
 use Rattle.ps_prims.specs.Rows.{Done, Scene, Performed, Answers}
 use Rattle.ps_prims.specs.Rows as rows
 use Rattle.ps_prims.specs.declared.stages.Stage.TheVariants.{Run as AtRun}

@@ -16,7 +16,7 @@ use Rattle.byte_store.specs.Worlds.{Surroundings, next_grant, rest_of}
 use Rattle.byte_store.specs.Blocks.{Block, Bytes, Cells, Freed, Memory, member, rest, overwritten, find, replaced, next_number, is_same_base, block_of, with_block, length_of, beside, is_freed_block, is_freed, is_end}
 use Rattle.byte_store.specs.Operations as store
 use Rattle.byte_store.specs.Operations.{and_then, inside, set, byte_at, word_at, cell_at, place_at, cells_from, text_from, text_in, with_bytes, with_cell, freed, is_index, plus, together, look, compare, change, distance, is_size, Allocation, granted, allocation}
-use Rattle.byte_store.proofs.Lookups.{next_shown}
+use Rattle.byte_store.proofs.NumbersAreFound.{next_shown}
 use Rattle.ps_meaning.specs.Values.{RunValue, Plain}
 use Rattle.ps_meaning.specs.Source.{run_block, run_memory}
 

@@ -1,9 +1,9 @@
 -- The laws of the source's runs.
 use Rattle.std.proofs.Common.{◌≡◌, ℕ, ℤ, zero, suc, ◌+◌, [], refl, sym, ap, subst, arith}
 use Rattle.byte_store.specs.Outcome.{Outcome, Returned, Running, Undefined, Stuck, Wrong, StoppedAtCells, Begins, IsSound}
-use Rattle.byte_store.specs.Agree.{Grows}
-use Rattle.byte_store.proofs.Fronts.{begins_eq}
-use Rattle.byte_store.proofs.Following.{growing_keeps}
+use Rattle.byte_store.specs.Laws.{Grows}
+use Rattle.byte_store.proofs.FrontsCompose.{begins_eq}
+use Rattle.byte_store.proofs.FollowingAgrees.{growing_keeps}
 use Rattle.ps_plain.specs.declared.program.Program.{Program}
 use Rattle.ps_plain.specs.Run.{Step, Goes, Stops, stop}
 use Rattle.ps_plain.specs.Meaning.{Enter, entering, enters, outcome, start, main_place, Source}

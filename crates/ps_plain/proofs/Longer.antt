@@ -5,7 +5,7 @@ use Rattle.byte_store.specs.declared.event.Event.{Event}
 use Rattle.byte_store.specs.declared.event.Event.TheVariants.{Input}
 use Rattle.byte_store.specs.Outcome.{End, Returned, Running, Undefined, Stuck, Wrong, StoppedAtCells, Begins}
 use Rattle.byte_store.specs.Worlds.{next_byte}
-use Rattle.byte_store.proofs.Fronts.{begins_self, begins_trans}
+use Rattle.byte_store.proofs.FrontsCompose.{begins_self, begins_trans}
 use Rattle.ps_plain.proofs.Related.{Keeps}
 use Rattle.ps_plain.specs.Run.{State, Step, Goes, Stops, Run, and_then, ◌>>=◌, pure, stop, known, take_one, take_call, at_depth, note, read_byte}
 

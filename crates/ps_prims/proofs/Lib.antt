@@ -1,11 +1,11 @@
-pub mod Fitting
-pub mod Quiet
-pub mod Appending
-pub mod Looking
-pub mod LookRows
-pub mod Further
-pub mod Changing
-pub mod Making
-pub mod Worldly
-mod Dividing
-mod Shifts
+pub mod OtherNumbersFitNoRow
+pub mod QuietRowsShowNothing
+pub mod NothingIsAdded
+pub mod LooksChangeNothing
+pub mod LooksAreTheRows
+pub mod WhatIsReadIsAPlace
+pub mod ChangesAreTheRows
+pub mod MakesAreTheRows
+pub mod PerformsTheRow
+mod DivisionsAreRounded
+mod ShiftsRoundDown

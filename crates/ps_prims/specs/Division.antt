@@ -64,7 +64,9 @@ pub record RowsUndefined (n1 n2 : ℤ) (stage : Stage) (s : Scene Value) : Type 
   pub modulo : at_integers prims.Modulo n1 n2 stage s ≡ Undefined ops.Division
 
 abbrev pub DivisionsAreRounded : Type 0
-DivisionsAreRounded = (n1 n2 : ℤ) (stage : Stage) (s : Scene Value) → is_word n1 ≡ true → is_word n2 ≡ true → (HasNoQuotient n1 n2 → ⊥) → RowsDivide n1 n2 stage s
+DivisionsAreRounded =
+    (n1 n2 : ℤ) (stage : Stage) (s : Scene Value) →
+    is_word n1 ≡ true → is_word n2 ≡ true → (HasNoQuotient n1 n2 → ⊥) → RowsDivide n1 n2 stage s
 
 abbrev pub DivisionsAreUndefined : Type 0
 DivisionsAreUndefined = (n1 n2 : ℤ) (stage : Stage) (s : Scene Value) → HasNoQuotient n1 n2 → RowsUndefined n1 n2 stage s

@@ -114,7 +114,10 @@ next_pointer m w = if next_grant w.grants then At (Made (length m.made)) (pos 0)
 -- a block was made, or its allocation was refused, and this was seen; or there is a cause, or memory ran out
 abbrev pub Makes : PrimOut → (Pointer → Value) → Result (Allocation Value) Op → (Pointer → Event) → State → State → Type 0
 Makes (out.Value v) of answer event old new =
-    (p : Pointer) × (v ≡ of p) × (answer ≡ Ok (record { memory = new.memory; world = new.world; pointer = p })) × (new.events ≡ old.events ++ event p ∷ [])
+    (p : Pointer)
+    × (v ≡ of p)
+    × (answer ≡ Ok (record { memory = new.memory; world = new.world; pointer = p }))
+    × (new.events ≡ old.events ++ event p ∷ [])
 Makes (out.Undefined op) of answer event old new = (answer ≡ Err op) × (new ≡ old)
 Makes out.Wrong of answer event old new = ⊥
 Makes out.NoMemory of answer event old new = new ≡ old
@@ -122,14 +125,19 @@ Makes out.NoMemory of answer event old new = new ≡ old
 -- what was done is the act's, with its answer as a value; or there is its cause, or memory ran out
 abbrev pub Acts : {X : Type 0} → PrimOut → (X → Value) → Stage → Result (Done Value X) Op → State → State → Type 0
 Acts {X} (out.Value v) of stage r old new =
-    (x : X) × (es : List Event) × (r ≡ Ok (record { answer = x; memory = new.memory; world = new.world; events = es })) × (v ≡ of x) × (new.events ≡ old.events ++ seen_at stage es)
+    (x : X)
+    × (es : List Event)
+    × (r ≡ Ok (record { answer = x; memory = new.memory; world = new.world; events = es }))
+    × (v ≡ of x)
+    × (new.events ≡ old.events ++ seen_at stage es)
 Acts (out.Undefined op) of stage r old new = (r ≡ Err op) × (new ≡ old)
 Acts out.Wrong of stage r old new = ⊥
 Acts out.NoMemory of stage r old new = new ≡ old
 
 -- a fixed block was added, the next one, which is answered; or there is a cause, or memory ran out
 abbrev pub Fixes : PrimOut → (Pointer → Value) → Result (Block Value) Op → Memory Value → Memory Value → Type 0
-Fixes (out.Value v) of r m m' = (b : Block Value) × (r ≡ Ok b) × (v ≡ of (At (Fixed (next_number m.fixed)) (pos 0))) × (m' ≡ fixed m (next_number m.fixed) b)
+Fixes (out.Value v) of r m m' =
+    (b : Block Value) × (r ≡ Ok b) × (v ≡ of (At (Fixed (next_number m.fixed)) (pos 0))) × (m' ≡ fixed m (next_number m.fixed) b)
 Fixes (out.Undefined op) of r m m' = (r ≡ Err op) × (m' ≡ m)
 Fixes out.Wrong of r m m' = ⊥
 Fixes out.NoMemory of r m m' = m' ≡ m

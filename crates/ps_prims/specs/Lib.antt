@@ -5,6 +5,7 @@ pub mod Division
 pub mod Shifting
 pub mod Inside
 pub mod Performing
-pub mod Groups
-pub mod Faults
+pub mod InsidePerforming
+pub mod InsideGroups
+pub mod InsideFaults
 pub mod Schemes

@@ -109,23 +109,40 @@ module _ {V : Type 0} where
 
   -- the memory is changed, and this is seen
   abbrev pub changes : (Memory V → Result (Memory V) Op) → Event → Act V (Unit {0})
-  changes change event stage s = and_then (change s.memory) (λ m. Ok (record { answer = tt; memory = m; world = s.world; events = event ∷ [] }))
+  changes change event stage s =
+      and_then (change s.memory) (λ m. Ok (record { answer = tt; memory = m; world = s.world; events = event ∷ [] }))
 
   -- a block is made, and this is seen
   abbrev pub makes : (Memory V → Surroundings → Result (Allocation V) Op) → (Pointer → Event) → Act V Pointer
-  makes make event stage s = and_then (make s.memory s.world) (λ a. Ok (record { answer = a.pointer; memory = a.memory; world = a.world; events = event a.pointer ∷ [] }))
+  makes make event stage s =
+      and_then
+      (make s.memory s.world)
+      (λ a. Ok (record { answer = a.pointer; memory = a.memory; world = a.world; events = event a.pointer ∷ [] }))
 
   -- a fixed block is made, the next one
   abbrev pub fixes : Block V → Act V Pointer
-  fixes b stage s = Ok (record { answer = At (Fixed (next_number s.memory.fixed)) (pos 0); memory = store.fixed s.memory (next_number s.memory.fixed) b; world = s.world; events = [] })
+  fixes b stage s =
+      Ok (record {
+        answer = At (Fixed (next_number s.memory.fixed)) (pos 0);
+        memory = store.fixed s.memory (next_number s.memory.fixed) b;
+        world = s.world;
+        events = [];
+      })
 
   -- the next byte of the input
   abbrev pub reads : Act V ℤ
-  reads stage s = Ok (record { answer = next_byte s.world.input; memory = s.memory; world = record s.world { input = rest_of s.world.input }; events = events.Input (next_byte s.world.input) ∷ [] })
+  reads stage s =
+      Ok (record {
+        answer = next_byte s.world.input;
+        memory = s.memory;
+        world = record s.world { input = rest_of s.world.input };
+        events = events.Input (next_byte s.world.input) ∷ [];
+      })
 
   -- a byte of the output
   abbrev pub writes : ℤ → Act V (Unit {0})
-  writes i stage s = and_then (byte_of i) (λ b. Ok (record { answer = tt; memory = s.memory; world = s.world; events = events.Output b ∷ [] }))
+  writes i stage s =
+      and_then (byte_of i) (λ b. Ok (record { answer = tt; memory = s.memory; world = s.world; events = events.Output b ∷ [] }))
 
   -- A vector of so many cells. At compile time it is the next fixed block, and at run time one that uses a grant.
   abbrev pub vector_of : (V → Word) → ℤ → V → Act V Pointer

@@ -37,4 +37,7 @@ abbrev pub variables_of : PrimName → List ℕ
 variables_of p = if is_variable (row first_order p).answer || has_variable (row first_order p).operands then 0 ∷ [] else []
 
 abbrev pub scheme : PrimName → Scheme
-scheme p = record { variables = variables_of p; body = types.Proc (map type_of (row first_order p).operands) (type_of (row first_order p).answer) }
+scheme p = record {
+  variables = variables_of p;
+  body = types.Proc (map type_of (row first_order p).operands) (type_of (row first_order p).answer);
+}

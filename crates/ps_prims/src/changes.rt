@@ -6,9 +6,9 @@ ghost use Rattle.byte_store.specs.Words.{word_of};
 ghost use Rattle.ps_base.specs.declared.language.PrimName.TheVariants as PrimName;
 ghost use Rattle.ps_prims.specs.Sorts.{first_order};
 ghost use Rattle.ps_prims.specs.Rows.{perform_row, row};
-ghost use Rattle.ps_prims.specs.Groups.{change_row};
+ghost use Rattle.ps_prims.specs.InsideGroups.{change_row};
 ghost use Rattle.ps_prims.specs.Inside.{Changed};
-ghost use Rattle.ps_prims.specs.Performing.{Changes};
+ghost use Rattle.ps_prims.specs.InsidePerforming.{Changes};
 
 use crate::groups::Change;
 use crate::operands::{address_and_integer, one_address, one_vector, vector_integer_any};
@@ -104,7 +104,7 @@ fn put_at<A: Allocator + Copy>(
     }
 }
 
-#[tactic(auto, using(crate::proofs::Changing::put_is_further, crate::proofs::Further::moved_is_plus))]
+#[tactic(auto, using(crate::proofs::ChangesAreTheRows::put_is_further, crate::proofs::WhatIsReadIsAPlace::moved_is_plus))]
 fn change_cell<A: Allocator + Copy>(
     p: Pointer,
     k: i64,
@@ -121,7 +121,7 @@ fn change_cell<A: Allocator + Copy>(
     }
 }
 
-#[tactic(auto, using(crate::proofs::Changing::vector_set_changes, crate::proofs::Changing::changes_wrong))]
+#[tactic(auto, using(crate::proofs::ChangesAreTheRows::vector_set_changes, crate::proofs::ChangesAreTheRows::changes_wrong))]
 fn perform_vector_set<A: Allocator + Copy>(
     args: &[Value],
     stage: Stage,
@@ -136,7 +136,7 @@ fn perform_vector_set<A: Allocator + Copy>(
     }
 }
 
-#[tactic(auto, using(crate::proofs::Changing::free_vector_changes, crate::proofs::Changing::changes_wrong))]
+#[tactic(auto, using(crate::proofs::ChangesAreTheRows::free_vector_changes, crate::proofs::ChangesAreTheRows::changes_wrong))]
 fn perform_deallocate_vector<A: Allocator + Copy>(
     args: &[Value],
     stage: Stage,
@@ -151,7 +151,7 @@ fn perform_deallocate_vector<A: Allocator + Copy>(
     }
 }
 
-#[tactic(auto, using(crate::proofs::Changing::free_memory_changes, crate::proofs::Changing::changes_wrong))]
+#[tactic(auto, using(crate::proofs::ChangesAreTheRows::free_memory_changes, crate::proofs::ChangesAreTheRows::changes_wrong))]
 fn perform_deallocate_memory<A: Allocator + Copy>(
     args: &[Value],
     stage: Stage,
@@ -166,7 +166,7 @@ fn perform_deallocate_memory<A: Allocator + Copy>(
     }
 }
 
-#[tactic(auto, using(crate::proofs::Changing::byte_set_changes, crate::proofs::Changing::changes_wrong))]
+#[tactic(auto, using(crate::proofs::ChangesAreTheRows::byte_set_changes, crate::proofs::ChangesAreTheRows::changes_wrong))]
 fn perform_byte_set<A: Allocator + Copy>(
     args: &[Value],
     stage: Stage,
@@ -181,7 +181,7 @@ fn perform_byte_set<A: Allocator + Copy>(
     }
 }
 
-#[tactic(auto, using(crate::proofs::Changing::word_set_changes, crate::proofs::Changing::changes_wrong))]
+#[tactic(auto, using(crate::proofs::ChangesAreTheRows::word_set_changes, crate::proofs::ChangesAreTheRows::changes_wrong))]
 fn perform_word_set<A: Allocator + Copy>(
     args: &[Value],
     stage: Stage,

@@ -5,9 +5,9 @@ ghost use Rattle.byte_store.specs.Operations.{before, cell_count, difference, is
 ghost use Rattle.ps_base.specs.declared.language.PrimName.TheVariants as PrimName;
 ghost use Rattle.ps_prims.specs.Sorts.{first_order};
 ghost use Rattle.ps_prims.specs.Rows.{perform_row, row};
-ghost use Rattle.ps_prims.specs.Groups.{glance_row};
+ghost use Rattle.ps_prims.specs.InsideGroups.{glance_row};
 ghost use Rattle.ps_prims.specs.Inside.{FoundQuietly};
-ghost use Rattle.ps_prims.specs.Performing.{LooksQuietly};
+ghost use Rattle.ps_prims.specs.InsidePerforming.{LooksQuietly};
 
 use crate::groups::Glance;
 use crate::operands::{address_and_integer, one_address, one_vector, two_addresses};
@@ -81,7 +81,7 @@ fn found_vector_length<A: Allocator + Copy>(p: Pointer, store: &Store<Value, A>)
     }
 }
 
-#[tactic(auto, using(crate::proofs::LookRows::is_null_vector_looks, crate::proofs::Looking::looks_quietly_wrong))]
+#[tactic(auto, using(crate::proofs::LooksAreTheRows::is_null_vector_looks, crate::proofs::LooksChangeNothing::looks_quietly_wrong))]
 fn perform_is_null_vector<A: Allocator + Copy>(args: &[Value], store: &Store<Value, A>) -> PrimOut
     ensures { LooksQuietly result store.now (perform_row first_order (row first_order PrimName.IsNullVector) args.now) }
 {
@@ -91,7 +91,7 @@ fn perform_is_null_vector<A: Allocator + Copy>(args: &[Value], store: &Store<Val
     }
 }
 
-#[tactic(auto, using(crate::proofs::LookRows::is_null_address_looks, crate::proofs::Looking::looks_quietly_wrong))]
+#[tactic(auto, using(crate::proofs::LooksAreTheRows::is_null_address_looks, crate::proofs::LooksChangeNothing::looks_quietly_wrong))]
 fn perform_is_null_address<A: Allocator + Copy>(args: &[Value], store: &Store<Value, A>) -> PrimOut
     ensures { LooksQuietly result store.now (perform_row first_order (row first_order PrimName.IsNullAddress) args.now) }
 {
@@ -101,7 +101,7 @@ fn perform_is_null_address<A: Allocator + Copy>(args: &[Value], store: &Store<Va
     }
 }
 
-#[tactic(auto, using(crate::proofs::LookRows::address_add_looks, crate::proofs::Looking::looks_quietly_wrong))]
+#[tactic(auto, using(crate::proofs::LooksAreTheRows::address_add_looks, crate::proofs::LooksChangeNothing::looks_quietly_wrong))]
 fn perform_address_add<A: Allocator + Copy>(args: &[Value], store: &Store<Value, A>) -> PrimOut
     ensures { LooksQuietly result store.now (perform_row first_order (row first_order PrimName.AddressAdd) args.now) }
 {
@@ -111,7 +111,7 @@ fn perform_address_add<A: Allocator + Copy>(args: &[Value], store: &Store<Value,
     }
 }
 
-#[tactic(auto, using(crate::proofs::LookRows::address_difference_looks, crate::proofs::Looking::looks_quietly_wrong))]
+#[tactic(auto, using(crate::proofs::LooksAreTheRows::address_difference_looks, crate::proofs::LooksChangeNothing::looks_quietly_wrong))]
 fn perform_address_difference<A: Allocator + Copy>(
     args: &[Value],
     store: &Store<Value, A>,
@@ -124,7 +124,7 @@ fn perform_address_difference<A: Allocator + Copy>(
     }
 }
 
-#[tactic(auto, using(crate::proofs::LookRows::address_equal_looks, crate::proofs::Looking::looks_quietly_wrong))]
+#[tactic(auto, using(crate::proofs::LooksAreTheRows::address_equal_looks, crate::proofs::LooksChangeNothing::looks_quietly_wrong))]
 fn perform_address_equal<A: Allocator + Copy>(args: &[Value], store: &Store<Value, A>) -> PrimOut
     ensures { LooksQuietly result store.now (perform_row first_order (row first_order PrimName.AddressEqual) args.now) }
 {
@@ -134,7 +134,7 @@ fn perform_address_equal<A: Allocator + Copy>(args: &[Value], store: &Store<Valu
     }
 }
 
-#[tactic(auto, using(crate::proofs::LookRows::address_less_looks, crate::proofs::Looking::looks_quietly_wrong))]
+#[tactic(auto, using(crate::proofs::LooksAreTheRows::address_less_looks, crate::proofs::LooksChangeNothing::looks_quietly_wrong))]
 fn perform_address_less<A: Allocator + Copy>(args: &[Value], store: &Store<Value, A>) -> PrimOut
     ensures { LooksQuietly result store.now (perform_row first_order (row first_order PrimName.AddressLess) args.now) }
 {
@@ -144,7 +144,7 @@ fn perform_address_less<A: Allocator + Copy>(args: &[Value], store: &Store<Value
     }
 }
 
-#[tactic(auto, using(crate::proofs::LookRows::vector_length_looks, crate::proofs::Looking::looks_quietly_wrong))]
+#[tactic(auto, using(crate::proofs::LooksAreTheRows::vector_length_looks, crate::proofs::LooksChangeNothing::looks_quietly_wrong))]
 fn perform_vector_length<A: Allocator + Copy>(args: &[Value], store: &Store<Value, A>) -> PrimOut
     ensures { LooksQuietly result store.now (perform_row first_order (row first_order PrimName.VectorLength) args.now) }
 {

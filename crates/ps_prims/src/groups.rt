@@ -4,7 +4,7 @@ ghost use Rattle.std.specs.Prelude.{◌≡◌};
 ghost use Rattle.ps_prims.specs.Sorts.{first_order};
 ghost use Rattle.ps_prims.specs.Rows.{row};
 ghost use Rattle.ps_prims.specs.Needs.{need};
-ghost use Rattle.ps_prims.specs.Groups.{group_need, group_row};
+ghost use Rattle.ps_prims.specs.InsideGroups.{group_need, group_row};
 
 use crate::numbers::{Arithmetic, Comparison, Division, Shift, Sign};
 use ps_base::Prim;

@@ -1,4 +1,7 @@
-//! The primitives of the language: what each takes, when it may be performed, and what it does.
+//! The primitives of the language. From a primitive, its operands, the memory and the world to its answer, what it leaves and
+//! what is seen of it from outside, by `perform` (specs/Rows.antt, specs/Performing.antt).
+//! From a primitive to its row of the table, by `arity_of`, `stages_of`, `operands_of`, `answer_of` and `scheme_of`
+//! (specs/Rows.antt, specs/Schemes.antt).
 #![tactic(auto)]
 
 mod changes;
@@ -25,6 +28,3 @@ pub use schemes::scheme_of;
 pub use sorts::{Sort, answer_of, operands_of};
 pub use stages::{Stage, Stages};
 pub use table::{arity_of, stages_of};
-
-#[cfg(test)]
-mod tests;

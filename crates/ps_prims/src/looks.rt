@@ -8,9 +8,9 @@ ghost use Rattle.byte_store.specs.Words.{word_of};
 ghost use Rattle.ps_base.specs.declared.language.PrimName.TheVariants as PrimName;
 ghost use Rattle.ps_prims.specs.Sorts.{first_order};
 ghost use Rattle.ps_prims.specs.Rows.{char_of, perform_row, row};
-ghost use Rattle.ps_prims.specs.Groups.{look_row};
+ghost use Rattle.ps_prims.specs.InsideGroups.{look_row};
 ghost use Rattle.ps_prims.specs.Inside.{Found};
-ghost use Rattle.ps_prims.specs.Performing.{Looks};
+ghost use Rattle.ps_prims.specs.InsidePerforming.{Looks};
 
 use crate::groups::Look;
 use crate::numbers;
@@ -22,7 +22,7 @@ use byte_store::{Cell, Event, Events, Pointer, Store, Value};
 use ps_base::Op;
 use std::alloc::Allocator;
 
-#[tactic(auto, using(crate::proofs::Looking::found_told))]
+#[tactic(auto, using(crate::proofs::LooksChangeNothing::found_told))]
 fn found_string_length<A: Allocator + Copy>(
     p: Pointer,
     stage: Stage,
@@ -37,7 +37,7 @@ fn found_string_length<A: Allocator + Copy>(
     }
 }
 
-#[tactic(auto, using(crate::proofs::LookRows::string_length_looks, crate::proofs::Looking::looks_wrong))]
+#[tactic(auto, using(crate::proofs::LooksAreTheRows::string_length_looks, crate::proofs::LooksChangeNothing::looks_wrong))]
 fn perform_string_length<A: Allocator + Copy>(
     args: &[Value],
     stage: Stage,
@@ -52,7 +52,7 @@ fn perform_string_length<A: Allocator + Copy>(
     }
 }
 
-#[tactic(auto, using(crate::proofs::LookRows::string_ref_looks, crate::proofs::Looking::looks_wrong))]
+#[tactic(auto, using(crate::proofs::LooksAreTheRows::string_ref_looks, crate::proofs::LooksChangeNothing::looks_wrong))]
 fn perform_string_ref<A: Allocator + Copy>(
     args: &[Value],
     stage: Stage,
@@ -67,7 +67,7 @@ fn perform_string_ref<A: Allocator + Copy>(
     }
 }
 
-#[tactic(auto, using(crate::proofs::LookRows::vector_ref_looks, crate::proofs::Looking::looks_wrong))]
+#[tactic(auto, using(crate::proofs::LooksAreTheRows::vector_ref_looks, crate::proofs::LooksChangeNothing::looks_wrong))]
 fn perform_vector_ref<A: Allocator + Copy>(
     args: &[Value],
     stage: Stage,
@@ -82,7 +82,7 @@ fn perform_vector_ref<A: Allocator + Copy>(
     }
 }
 
-#[tactic(auto, using(crate::proofs::Looking::found_told))]
+#[tactic(auto, using(crate::proofs::LooksChangeNothing::found_told))]
 fn found_byte_ref<A: Allocator + Copy>(
     p: Pointer,
     stage: Stage,
@@ -97,7 +97,7 @@ fn found_byte_ref<A: Allocator + Copy>(
     }
 }
 
-#[tactic(auto, using(crate::proofs::LookRows::byte_ref_looks, crate::proofs::Looking::looks_wrong))]
+#[tactic(auto, using(crate::proofs::LooksAreTheRows::byte_ref_looks, crate::proofs::LooksChangeNothing::looks_wrong))]
 fn perform_byte_ref<A: Allocator + Copy>(
     args: &[Value],
     stage: Stage,
@@ -112,7 +112,7 @@ fn perform_byte_ref<A: Allocator + Copy>(
     }
 }
 
-#[tactic(auto, using(crate::proofs::Looking::found_told))]
+#[tactic(auto, using(crate::proofs::LooksChangeNothing::found_told))]
 fn found_word_ref<A: Allocator + Copy>(
     p: Pointer,
     stage: Stage,
@@ -127,7 +127,7 @@ fn found_word_ref<A: Allocator + Copy>(
     }
 }
 
-#[tactic(auto, using(crate::proofs::LookRows::word_ref_looks, crate::proofs::Looking::looks_wrong))]
+#[tactic(auto, using(crate::proofs::LooksAreTheRows::word_ref_looks, crate::proofs::LooksChangeNothing::looks_wrong))]
 fn perform_word_ref<A: Allocator + Copy>(
     args: &[Value],
     stage: Stage,
@@ -152,7 +152,7 @@ fn char_at<A: Allocator + Copy>(p: Pointer, k: i64, store: &Store<Value, A>) -> 
     }
 }
 
-#[tactic(auto, using(crate::proofs::Looking::found_told, crate::proofs::Further::text_is_further, crate::proofs::Further::moved_is_plus))]
+#[tactic(auto, using(crate::proofs::LooksChangeNothing::found_told, crate::proofs::WhatIsReadIsAPlace::text_is_further, crate::proofs::WhatIsReadIsAPlace::moved_is_plus))]
 fn found_string_ref<A: Allocator + Copy>(
     p: Pointer,
     k: i64,
@@ -171,7 +171,7 @@ fn found_string_ref<A: Allocator + Copy>(
     }
 }
 
-#[tactic(auto, using(crate::proofs::Looking::found_told, crate::proofs::Further::get_is_further, crate::proofs::Further::moved_is_plus))]
+#[tactic(auto, using(crate::proofs::LooksChangeNothing::found_told, crate::proofs::WhatIsReadIsAPlace::get_is_further, crate::proofs::WhatIsReadIsAPlace::moved_is_plus))]
 fn found_vector_ref<A: Allocator + Copy>(
     p: Pointer,
     k: i64,

@@ -13,7 +13,7 @@ ghost use Rattle.byte_store.specs.Words.{word_of};
 ghost use Rattle.ps_base.specs.declared.language.PrimName.TheVariants as PrimName;
 ghost use Rattle.ps_prims.specs.Sorts.{first_order};
 ghost use Rattle.ps_prims.specs.Rows.{appended, equal_texts, perform_row, row, vector_of};
-ghost use Rattle.ps_prims.specs.Groups.{make_row};
+ghost use Rattle.ps_prims.specs.InsideGroups.{make_row};
 ghost use Rattle.ps_prims.specs.Needs.{HasNumber};
 ghost use Rattle.ps_prims.specs.Inside.{Fixes, FoundInCopies, Makes, next_pointer, string_block, vector_block};
 ghost use Rattle.ps_prims.specs.Performing.{Belongs, Comes, state};
@@ -101,7 +101,7 @@ fn filled(alloc: Global, fill: Value, count: usize) -> Result<Items<Value>, NoMe
 }
 
 // Makes a vector, at compile time.
-#[tactic(auto, using(crate::proofs::Making::filled_is))]
+#[tactic(auto, using(crate::proofs::MakesAreTheRows::filled_is))]
 fn fix_vector<A: Allocator + Copy>(
     alloc: Global,
     count: i64,
@@ -161,7 +161,7 @@ fn fix_string<A: Allocator + Copy>(
     }
 }
 
-#[tactic(auto, using(crate::proofs::Making::vector_comes, crate::proofs::Making::vector_comes_fixed, crate::proofs::Making::comes_wrong))]
+#[tactic(auto, using(crate::proofs::MakesAreTheRows::vector_comes, crate::proofs::MakesAreTheRows::vector_comes_fixed, crate::proofs::MakesAreTheRows::comes_wrong))]
 fn perform_make_vector<A: Allocator + Copy>(
     alloc: Global,
     args: &[Value],
@@ -182,7 +182,7 @@ fn perform_make_vector<A: Allocator + Copy>(
     }
 }
 
-#[tactic(auto, using(crate::proofs::Making::allocate_comes, crate::proofs::Making::comes_wrong))]
+#[tactic(auto, using(crate::proofs::MakesAreTheRows::allocate_comes, crate::proofs::MakesAreTheRows::comes_wrong))]
 fn perform_allocate_memory<A: Allocator + Copy>(
     args: &[Value],
     store: &mut Store<Value, A>,
@@ -198,7 +198,7 @@ fn perform_allocate_memory<A: Allocator + Copy>(
     }
 }
 
-#[tactic(auto, using(crate::proofs::Making::string_comes, crate::proofs::Making::comes_wrong))]
+#[tactic(auto, using(crate::proofs::MakesAreTheRows::string_comes, crate::proofs::MakesAreTheRows::comes_wrong))]
 fn perform_string_append<A: Allocator + Copy>(
     alloc: Global,
     args: &[Value],
@@ -232,7 +232,7 @@ fn found_string_equal<A: Allocator + Copy>(
     }
 }
 
-#[tactic(auto, using(crate::proofs::Making::string_equal_comes, crate::proofs::Making::comes_wrong))]
+#[tactic(auto, using(crate::proofs::MakesAreTheRows::string_equal_comes, crate::proofs::MakesAreTheRows::comes_wrong))]
 fn perform_string_equal<A: Allocator + Copy>(
     alloc: Global,
     args: &[Value],

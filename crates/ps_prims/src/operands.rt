@@ -125,7 +125,7 @@ fn vector(v: Value) -> Option<Pointer>
 }
 
 /// An integer.
-#[tactic(auto, using(crate::proofs::Fitting::other_number))]
+#[tactic(auto, using(crate::proofs::OtherNumbersFitNoRow::other_number))]
 pub fn one_integer(args: &[Value]) -> Option<i64>
     ensures { MatchOption result (fits first_order (IntegerSort ∷ []) args.now ≡ false) (λ r. args.now ≡ value.Integer r ∷ []) }
 {
@@ -133,7 +133,7 @@ pub fn one_integer(args: &[Value]) -> Option<i64>
 }
 
 /// Two integers.
-#[tactic(auto, using(crate::proofs::Fitting::other_number))]
+#[tactic(auto, using(crate::proofs::OtherNumbersFitNoRow::other_number))]
 pub fn two_integers(args: &[Value]) -> Option<(i64, i64)>
     ensures { MatchOption result (fits first_order (IntegerSort ∷ IntegerSort ∷ []) args.now ≡ false) (λ r. args.now ≡ value.Integer r.0 ∷ value.Integer r.1 ∷ []) }
 {
@@ -142,7 +142,7 @@ pub fn two_integers(args: &[Value]) -> Option<(i64, i64)>
 }
 
 /// A boolean.
-#[tactic(auto, using(crate::proofs::Fitting::other_number))]
+#[tactic(auto, using(crate::proofs::OtherNumbersFitNoRow::other_number))]
 pub fn one_boolean(args: &[Value]) -> Option<bool>
     ensures { MatchOption result (fits first_order (BooleanSort ∷ []) args.now ≡ false) (λ r. args.now ≡ value.Boolean r ∷ []) }
 {
@@ -150,7 +150,7 @@ pub fn one_boolean(args: &[Value]) -> Option<bool>
 }
 
 /// Two booleans.
-#[tactic(auto, using(crate::proofs::Fitting::other_number))]
+#[tactic(auto, using(crate::proofs::OtherNumbersFitNoRow::other_number))]
 pub fn two_booleans(args: &[Value]) -> Option<(bool, bool)>
     ensures { MatchOption result (fits first_order (BooleanSort ∷ BooleanSort ∷ []) args.now ≡ false) (λ r. args.now ≡ value.Boolean r.0 ∷ value.Boolean r.1 ∷ []) }
 {
@@ -159,7 +159,7 @@ pub fn two_booleans(args: &[Value]) -> Option<(bool, bool)>
 }
 
 /// A character.
-#[tactic(auto, using(crate::proofs::Fitting::other_number))]
+#[tactic(auto, using(crate::proofs::OtherNumbersFitNoRow::other_number))]
 pub fn one_char(args: &[Value]) -> Option<u8>
     ensures { MatchOption result (fits first_order (CharSort ∷ []) args.now ≡ false) (λ r. args.now ≡ value.Char r ∷ []) }
 {
@@ -167,7 +167,7 @@ pub fn one_char(args: &[Value]) -> Option<u8>
 }
 
 /// Two characters.
-#[tactic(auto, using(crate::proofs::Fitting::other_number))]
+#[tactic(auto, using(crate::proofs::OtherNumbersFitNoRow::other_number))]
 pub fn two_chars(args: &[Value]) -> Option<(u8, u8)>
     ensures { MatchOption result (fits first_order (CharSort ∷ CharSort ∷ []) args.now ≡ false) (λ r. args.now ≡ value.Char r.0 ∷ value.Char r.1 ∷ []) }
 {
@@ -176,7 +176,7 @@ pub fn two_chars(args: &[Value]) -> Option<(u8, u8)>
 }
 
 /// A string.
-#[tactic(auto, using(crate::proofs::Fitting::other_number))]
+#[tactic(auto, using(crate::proofs::OtherNumbersFitNoRow::other_number))]
 pub fn one_text(args: &[Value]) -> Option<Pointer>
     ensures { MatchOption result (fits first_order (TextSort ∷ []) args.now ≡ false) (λ r. args.now ≡ value.Text r ∷ []) }
 {
@@ -184,7 +184,7 @@ pub fn one_text(args: &[Value]) -> Option<Pointer>
 }
 
 /// A string and an integer.
-#[tactic(auto, using(crate::proofs::Fitting::other_number))]
+#[tactic(auto, using(crate::proofs::OtherNumbersFitNoRow::other_number))]
 pub fn text_and_integer(args: &[Value]) -> Option<(Pointer, i64)>
     ensures { MatchOption result (fits first_order (TextSort ∷ IntegerSort ∷ []) args.now ≡ false) (λ r. args.now ≡ value.Text r.0 ∷ value.Integer r.1 ∷ []) }
 {
@@ -193,7 +193,7 @@ pub fn text_and_integer(args: &[Value]) -> Option<(Pointer, i64)>
 }
 
 /// Two strings.
-#[tactic(auto, using(crate::proofs::Fitting::other_number))]
+#[tactic(auto, using(crate::proofs::OtherNumbersFitNoRow::other_number))]
 pub fn two_texts(args: &[Value]) -> Option<(Pointer, Pointer)>
     ensures { MatchOption result (fits first_order (TextSort ∷ TextSort ∷ []) args.now ≡ false) (λ r. args.now ≡ value.Text r.0 ∷ value.Text r.1 ∷ []) }
 {
@@ -202,7 +202,7 @@ pub fn two_texts(args: &[Value]) -> Option<(Pointer, Pointer)>
 }
 
 /// An integer and any value.
-#[tactic(auto, using(crate::proofs::Fitting::other_number))]
+#[tactic(auto, using(crate::proofs::OtherNumbersFitNoRow::other_number))]
 pub fn integer_and_any(args: &[Value]) -> Option<(i64, Value)>
     ensures { MatchOption result (fits first_order (IntegerSort ∷ AnySort ∷ []) args.now ≡ false) (λ r. args.now ≡ value.Integer r.0 ∷ r.1 ∷ []) }
 {
@@ -211,7 +211,7 @@ pub fn integer_and_any(args: &[Value]) -> Option<(i64, Value)>
 }
 
 /// A vector.
-#[tactic(auto, using(crate::proofs::Fitting::other_number))]
+#[tactic(auto, using(crate::proofs::OtherNumbersFitNoRow::other_number))]
 pub fn one_vector(args: &[Value]) -> Option<Pointer>
     ensures { MatchOption result (fits first_order (VectorSort ∷ []) args.now ≡ false) (λ r. args.now ≡ value.Vector r ∷ []) }
 {
@@ -219,7 +219,7 @@ pub fn one_vector(args: &[Value]) -> Option<Pointer>
 }
 
 /// A vector and an integer.
-#[tactic(auto, using(crate::proofs::Fitting::other_number))]
+#[tactic(auto, using(crate::proofs::OtherNumbersFitNoRow::other_number))]
 pub fn vector_and_integer(args: &[Value]) -> Option<(Pointer, i64)>
     ensures { MatchOption result (fits first_order (VectorSort ∷ IntegerSort ∷ []) args.now ≡ false) (λ r. args.now ≡ value.Vector r.0 ∷ value.Integer r.1 ∷ []) }
 {
@@ -228,7 +228,7 @@ pub fn vector_and_integer(args: &[Value]) -> Option<(Pointer, i64)>
 }
 
 /// A vector, an integer and any value.
-#[tactic(auto, using(crate::proofs::Fitting::other_number))]
+#[tactic(auto, using(crate::proofs::OtherNumbersFitNoRow::other_number))]
 pub fn vector_integer_any(args: &[Value]) -> Option<(Pointer, i64, Value)>
     ensures { MatchOption result (fits first_order (VectorSort ∷ IntegerSort ∷ AnySort ∷ []) args.now ≡ false) (λ r. args.now ≡ value.Vector r.0 ∷ value.Integer r.1 ∷ r.2 ∷ []) }
 {
@@ -237,7 +237,7 @@ pub fn vector_integer_any(args: &[Value]) -> Option<(Pointer, i64, Value)>
 }
 
 /// An address.
-#[tactic(auto, using(crate::proofs::Fitting::other_number))]
+#[tactic(auto, using(crate::proofs::OtherNumbersFitNoRow::other_number))]
 pub fn one_address(args: &[Value]) -> Option<Pointer>
     ensures { MatchOption result (fits first_order (AddressSort ∷ []) args.now ≡ false) (λ r. args.now ≡ value.Address r ∷ []) }
 {
@@ -245,7 +245,7 @@ pub fn one_address(args: &[Value]) -> Option<Pointer>
 }
 
 /// An address and an integer.
-#[tactic(auto, using(crate::proofs::Fitting::other_number))]
+#[tactic(auto, using(crate::proofs::OtherNumbersFitNoRow::other_number))]
 pub fn address_and_integer(args: &[Value]) -> Option<(Pointer, i64)>
     ensures { MatchOption result (fits first_order (AddressSort ∷ IntegerSort ∷ []) args.now ≡ false) (λ r. args.now ≡ value.Address r.0 ∷ value.Integer r.1 ∷ []) }
 {
@@ -254,7 +254,7 @@ pub fn address_and_integer(args: &[Value]) -> Option<(Pointer, i64)>
 }
 
 /// Two addresses.
-#[tactic(auto, using(crate::proofs::Fitting::other_number))]
+#[tactic(auto, using(crate::proofs::OtherNumbersFitNoRow::other_number))]
 pub fn two_addresses(args: &[Value]) -> Option<(Pointer, Pointer)>
     ensures { MatchOption result (fits first_order (AddressSort ∷ AddressSort ∷ []) args.now ≡ false) (λ r. args.now ≡ value.Address r.0 ∷ value.Address r.1 ∷ []) }
 {

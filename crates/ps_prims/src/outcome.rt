@@ -1,7 +1,7 @@
 //! What came of a primitive.
 
 ghost use Rattle.std.specs.Prelude.{◌≡◌};
-ghost use Rattle.ps_prims.specs.Faults.{fault_out};
+ghost use Rattle.ps_prims.specs.InsideFaults.{fault_out};
 
 use byte_store::{StoreFault, Value};
 use ps_base::Op;

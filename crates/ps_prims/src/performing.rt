@@ -11,9 +11,10 @@ ghost use Rattle.ps_base.specs.declared.language.PrimName.TheVariants as PrimNam
 ghost use Rattle.ps_prims.specs.Sorts.{first_order};
 ghost use Rattle.ps_prims.specs.Rows.{byte_of, perform, perform_row, reads, row};
 ghost use Rattle.ps_prims.specs.Inside.{Acts, Found};
-ghost use Rattle.ps_prims.specs.Groups.{group_need, group_row};
+ghost use Rattle.ps_prims.specs.InsideGroups.{group_need, group_row};
 ghost use Rattle.ps_prims.specs.Needs.{HasRoom, Takes, Wanting, need};
-ghost use Rattle.ps_prims.specs.Performing.{Belongs, Comes, Performs, Quiet, state};
+ghost use Rattle.ps_prims.specs.Performing.{Belongs, Comes, Performs, state};
+ghost use Rattle.ps_prims.specs.InsidePerforming.{Quiet};
 
 use crate::changes::perform_change;
 use crate::glances::perform_glance;
@@ -43,7 +44,7 @@ fn take_byte(stage: Stage, world: &mut World, events: &mut Events) -> PrimOut
     PrimOut::Value(Value::Integer(world.read()))
 }
 
-#[tactic(auto, using(crate::proofs::Worldly::reads_comes, crate::proofs::Making::comes_wrong))]
+#[tactic(auto, using(crate::proofs::PerformsTheRow::reads_comes, crate::proofs::MakesAreTheRows::comes_wrong))]
 fn perform_read_byte(
     args: &[Value],
     stage: Stage,
@@ -59,7 +60,7 @@ fn perform_read_byte(
     }
 }
 
-#[tactic(auto, using(crate::proofs::Looking::found_told))]
+#[tactic(auto, using(crate::proofs::LooksChangeNothing::found_told))]
 fn put_byte(i: i64, stage: Stage, events: &mut Events) -> PrimOut
     ensures { Found result (byte_of i) (λ b. Value.Unit) (λ b. Event.Output b ∷ []) stage events.old events.new }
 {
@@ -69,7 +70,7 @@ fn put_byte(i: i64, stage: Stage, events: &mut Events) -> PrimOut
     }
 }
 
-#[tactic(auto, using(crate::proofs::Worldly::writes_comes, crate::proofs::Making::comes_wrong))]
+#[tactic(auto, using(crate::proofs::PerformsTheRow::writes_comes, crate::proofs::MakesAreTheRows::comes_wrong))]
 fn perform_write_byte(args: &[Value], stage: Stage, events: &mut Events) -> PrimOut
     ensures { (m : Memory ValueSpec) (w : Surroundings) → Comes result (state m w events.old) (state m w events.new) (perform_row first_order (row first_order PrimName.WriteByte) args.now stage (record { memory = m; world = w })) }
 {
@@ -80,7 +81,7 @@ fn perform_write_byte(args: &[Value], stage: Stage, events: &mut Events) -> Prim
 }
 
 // Performs a primitive of a group.
-#[tactic(auto, using(crate::proofs::Worldly::quiet_comes))]
+#[tactic(auto, using(crate::proofs::PerformsTheRow::quiet_comes))]
 fn perform_group<A: Allocator + Copy>(
     alloc: Global,
     p: Group,

@@ -6,8 +6,8 @@ ghost use Rattle.ps_base.specs.declared.language.PrimName.TheVariants as PrimNam
 ghost use Rattle.ps_prims.specs.Sorts.{first_order};
 ghost use Rattle.ps_prims.specs.Rows.{arithmetic, comparison, perform_row, row, test};
 ghost use Rattle.ps_prims.specs.Inside.{char_out, number_out, calculated, compared, divided, shifted, tested};
-ghost use Rattle.ps_prims.specs.Groups.{plain_row};
-ghost use Rattle.ps_prims.specs.Performing.{Quiet};
+ghost use Rattle.ps_prims.specs.InsideGroups.{plain_row};
+ghost use Rattle.ps_prims.specs.InsidePerforming.{Quiet};
 
 use crate::groups::Plain;
 use crate::numbers::{
@@ -31,7 +31,7 @@ fn number(answer: Result<i64, Op>) -> PrimOut
     }
 }
 
-#[tactic(auto, using(crate::proofs::Quiet::quiet_arithmetic, crate::proofs::Quiet::quiet_wrong))]
+#[tactic(auto, using(crate::proofs::QuietRowsShowNothing::quiet_arithmetic, crate::proofs::QuietRowsShowNothing::quiet_wrong))]
 pub fn perform_arithmetic(operation: Arithmetic, args: &[Value]) -> PrimOut
     ensures { Quiet result (perform_row first_order (arithmetic first_order (calculated operation)) args.now) }
 {
@@ -41,7 +41,7 @@ pub fn perform_arithmetic(operation: Arithmetic, args: &[Value]) -> PrimOut
     }
 }
 
-#[tactic(auto, using(crate::proofs::Quiet::quiet_arithmetic, crate::proofs::Quiet::quiet_wrong))]
+#[tactic(auto, using(crate::proofs::QuietRowsShowNothing::quiet_arithmetic, crate::proofs::QuietRowsShowNothing::quiet_wrong))]
 pub fn perform_division(operation: Division, args: &[Value]) -> PrimOut
     ensures { Quiet result (perform_row first_order (arithmetic first_order (divided operation)) args.now) }
 {
@@ -51,7 +51,7 @@ pub fn perform_division(operation: Division, args: &[Value]) -> PrimOut
     }
 }
 
-#[tactic(auto, using(crate::proofs::Quiet::quiet_arithmetic, crate::proofs::Quiet::quiet_wrong))]
+#[tactic(auto, using(crate::proofs::QuietRowsShowNothing::quiet_arithmetic, crate::proofs::QuietRowsShowNothing::quiet_wrong))]
 pub fn perform_shift(operation: Shift, args: &[Value]) -> PrimOut
     ensures { Quiet result (perform_row first_order (arithmetic first_order (shifted operation)) args.now) }
 {
@@ -61,7 +61,7 @@ pub fn perform_shift(operation: Shift, args: &[Value]) -> PrimOut
     }
 }
 
-#[tactic(auto, using(crate::proofs::Quiet::quiet_comparison, crate::proofs::Quiet::quiet_wrong))]
+#[tactic(auto, using(crate::proofs::QuietRowsShowNothing::quiet_comparison, crate::proofs::QuietRowsShowNothing::quiet_wrong))]
 pub fn perform_comparison(order: Comparison, args: &[Value]) -> PrimOut
     ensures { Quiet result (perform_row first_order (comparison first_order (compared order)) args.now) }
 {
@@ -71,7 +71,7 @@ pub fn perform_comparison(order: Comparison, args: &[Value]) -> PrimOut
     }
 }
 
-#[tactic(auto, using(crate::proofs::Quiet::quiet_test, crate::proofs::Quiet::quiet_wrong))]
+#[tactic(auto, using(crate::proofs::QuietRowsShowNothing::quiet_test, crate::proofs::QuietRowsShowNothing::quiet_wrong))]
 pub fn perform_test(sign: Sign, args: &[Value]) -> PrimOut
     ensures { Quiet result (perform_row first_order (test first_order (tested sign)) args.now) }
 {
@@ -88,7 +88,7 @@ fn inverted(i: i64) -> i64
     !i
 }
 
-#[tactic(auto, using(crate::proofs::Quiet::nothing_seen, crate::proofs::Quiet::quiet_wrong))]
+#[tactic(auto, using(crate::proofs::QuietRowsShowNothing::nothing_seen, crate::proofs::QuietRowsShowNothing::quiet_wrong))]
 fn perform_bitwise_not(args: &[Value]) -> PrimOut
     ensures { Quiet result (perform_row first_order (row first_order PrimName.BitwiseNot) args.now) }
 {
@@ -98,7 +98,7 @@ fn perform_bitwise_not(args: &[Value]) -> PrimOut
     }
 }
 
-#[tactic(auto, using(crate::proofs::Quiet::nothing_seen, crate::proofs::Quiet::quiet_wrong))]
+#[tactic(auto, using(crate::proofs::QuietRowsShowNothing::nothing_seen, crate::proofs::QuietRowsShowNothing::quiet_wrong))]
 fn perform_not(args: &[Value]) -> PrimOut
     ensures { Quiet result (perform_row first_order (row first_order PrimName.Not) args.now) }
 {
@@ -108,7 +108,7 @@ fn perform_not(args: &[Value]) -> PrimOut
     }
 }
 
-#[tactic(auto, using(crate::proofs::Quiet::nothing_seen, crate::proofs::Quiet::quiet_wrong))]
+#[tactic(auto, using(crate::proofs::QuietRowsShowNothing::nothing_seen, crate::proofs::QuietRowsShowNothing::quiet_wrong))]
 fn perform_unspecific(args: &[Value]) -> PrimOut
     ensures { Quiet result (perform_row first_order (row first_order PrimName.Unspecific) args.now) }
 {
@@ -119,7 +119,7 @@ fn perform_unspecific(args: &[Value]) -> PrimOut
     }
 }
 
-#[tactic(auto, using(crate::proofs::Quiet::nothing_seen, crate::proofs::Quiet::quiet_wrong))]
+#[tactic(auto, using(crate::proofs::QuietRowsShowNothing::nothing_seen, crate::proofs::QuietRowsShowNothing::quiet_wrong))]
 fn perform_boolean_equal(args: &[Value]) -> PrimOut
     ensures { Quiet result (perform_row first_order (row first_order PrimName.BooleanEqual) args.now) }
 {
@@ -129,7 +129,7 @@ fn perform_boolean_equal(args: &[Value]) -> PrimOut
     }
 }
 
-#[tactic(auto, using(crate::proofs::Quiet::nothing_seen, crate::proofs::Quiet::quiet_wrong))]
+#[tactic(auto, using(crate::proofs::QuietRowsShowNothing::nothing_seen, crate::proofs::QuietRowsShowNothing::quiet_wrong))]
 fn perform_char_equal(args: &[Value]) -> PrimOut
     ensures { Quiet result (perform_row first_order (row first_order PrimName.CharEqual) args.now) }
 {
@@ -139,7 +139,7 @@ fn perform_char_equal(args: &[Value]) -> PrimOut
     }
 }
 
-#[tactic(auto, using(crate::proofs::Quiet::nothing_seen, crate::proofs::Quiet::quiet_wrong))]
+#[tactic(auto, using(crate::proofs::QuietRowsShowNothing::nothing_seen, crate::proofs::QuietRowsShowNothing::quiet_wrong))]
 fn perform_char_less(args: &[Value]) -> PrimOut
     ensures { Quiet result (perform_row first_order (row first_order PrimName.CharLess) args.now) }
 {
@@ -149,7 +149,7 @@ fn perform_char_less(args: &[Value]) -> PrimOut
     }
 }
 
-#[tactic(auto, using(crate::proofs::Quiet::nothing_seen, crate::proofs::Quiet::quiet_wrong))]
+#[tactic(auto, using(crate::proofs::QuietRowsShowNothing::nothing_seen, crate::proofs::QuietRowsShowNothing::quiet_wrong))]
 fn perform_char_to_ascii(args: &[Value]) -> PrimOut
     ensures { Quiet result (perform_row first_order (row first_order PrimName.CharToAscii) args.now) }
 {
@@ -169,7 +169,7 @@ fn char_out(answer: Result<u8, Op>) -> PrimOut
     }
 }
 
-#[tactic(auto, using(crate::proofs::Quiet::quiet_ascii, crate::proofs::Quiet::quiet_wrong))]
+#[tactic(auto, using(crate::proofs::QuietRowsShowNothing::quiet_ascii, crate::proofs::QuietRowsShowNothing::quiet_wrong))]
 fn perform_ascii_to_char(args: &[Value]) -> PrimOut
     ensures { Quiet result (perform_row first_order (row first_order PrimName.AsciiToChar) args.now) }
 {
@@ -179,7 +179,7 @@ fn perform_ascii_to_char(args: &[Value]) -> PrimOut
     }
 }
 
-#[tactic(auto, using(crate::proofs::Quiet::nothing_seen, crate::proofs::Quiet::quiet_wrong))]
+#[tactic(auto, using(crate::proofs::QuietRowsShowNothing::nothing_seen, crate::proofs::QuietRowsShowNothing::quiet_wrong))]
 fn perform_null_address(args: &[Value]) -> PrimOut
     ensures { Quiet result (perform_row first_order (row first_order PrimName.NullAddress) args.now) }
 {

@@ -11,7 +11,7 @@ use byte_store::{Event, Events, Value};
 use ps_base::NoMemory;
 
 /// Adds an event, at run time.
-#[tactic(auto, using(crate::proofs::Appending::and_nothing))]
+#[tactic(auto, using(crate::proofs::NothingIsAdded::and_nothing))]
 pub fn tell(events: &mut Events, stage: Stage, event: Event) -> Result<(), NoMemory>
     ensures { MatchResult result (λ done. events.new ≡ events.old ++ seen_at stage (event ∷ [])) (λ e. Takes Events stage × (events.new ≡ events.old)) }
 {

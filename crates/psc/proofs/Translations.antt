@@ -1,6 +1,7 @@
 -- A unit that agrees with the program of procedures that a text is translates the text.
 use Rattle.std.proofs.Common.{ℕ, List, []}
-use Rattle.byte_store.specs.Agree.{Agree, Shallow, SameEachAgrees}
+use Rattle.byte_store.specs.Agree.{Agree, Shallow}
+use Rattle.byte_store.specs.Laws.{SameEachAgrees}
 use Rattle.byte_store.specs.Worlds.{Surroundings}
 use Rattle.ps_datum.specs.declared.datum.Datum.{Datum}
 use Rattle.ps_read.specs.Reading.{Reads}

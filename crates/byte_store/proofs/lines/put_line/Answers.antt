@@ -1,6 +1,6 @@
 use Rattle.ps_base.proofs.Writing.{adds_then}
-use Rattle.byte_store.specs.Parts.{part_text}
-use Rattle.byte_store.proofs.Spaces.{line_parts}
+use Rattle.byte_store.specs.InsideLines.{part_text}
+use Rattle.byte_store.proofs.PartsMakeTheLine.{line_parts}
 use Rattle.byte_store.proofs.lines.put_line.Goals as goal
 
 pub returns : goal.returns

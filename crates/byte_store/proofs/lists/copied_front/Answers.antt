@@ -1,6 +1,6 @@
 use Rattle.std.proofs.Common.{◌∙◌, ap, sym, Some}
 use Rattle.byte_store.specs.Operations.{set}
-use Rattle.byte_store.proofs.Places.{all_set_more, all_set_stops}
+use Rattle.byte_store.proofs.PlaceByPlace.{all_set_more, all_set_stops}
 use Rattle.byte_store.proofs.lists.copied_front.Goals as goal
 
 pub returns-in-None : goal.returns-in-None

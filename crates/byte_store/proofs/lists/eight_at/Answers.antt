@@ -3,7 +3,7 @@ use Rattle.std.specs.Int.{w128}
 use Rattle.std.proofs.lemmas.Int.{to_z-of_z}
 use Rattle.std.proofs.lemmas.List.{take_more_set, length-set, take_all}
 use Rattle.byte_store.specs.Operations.{and_then, inside, set, all_set}
-use Rattle.byte_store.proofs.Places.{all_set_more, window_of_rest}
+use Rattle.byte_store.proofs.PlaceByPlace.{all_set_more, window_of_rest}
 use Rattle.byte_store.proofs.lists.eight_at.Goals as goal
 
 pub loop-i-preserved : goal.loop-i-preserved

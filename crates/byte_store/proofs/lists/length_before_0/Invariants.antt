@@ -1,7 +1,7 @@
 -- The bytes so far are set, and none is 0.
 use Rattle.std.proofs.Common.{◌≡◌, drop}
 use Rattle.byte_store.specs.Operations.{text_before_0}
-use Rattle.byte_store.proofs.Places.{further}
+use Rattle.byte_store.proofs.PlaceByPlace.{further}
 use Rattle.byte_store.proofs.lists.length_before_0.Given as goal
 
 abbrev pub invariant-loop-i : goal.invariant-loop-i

@@ -1,5 +1,5 @@
 use Rattle.std.proofs.Common.{◌+◌, ◌<◌, length, sym, arith}
-use Rattle.byte_store.proofs.Places.{one_more_set}
+use Rattle.byte_store.proofs.PlaceByPlace.{one_more_set}
 use Rattle.byte_store.proofs.lists.overwrite.Goals as goal
 
 pub loop-i-preserved : goal.loop-i-preserved

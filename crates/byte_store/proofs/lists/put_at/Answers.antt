@@ -1,6 +1,6 @@
 use Rattle.std.specs.Int.{w128}
 use Rattle.std.proofs.lemmas.Int.{to_z-of_z}
-use Rattle.byte_store.proofs.Places.{one_overwritten}
+use Rattle.byte_store.proofs.PlaceByPlace.{one_overwritten}
 use Rattle.byte_store.proofs.lists.put_at.Goals as goal
 
 pub returns : goal.returns

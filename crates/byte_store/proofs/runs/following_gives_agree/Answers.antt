@@ -1,4 +1,4 @@
-use Rattle.byte_store.proofs.Following.{following_agrees}
+use Rattle.byte_store.proofs.FollowingAgrees.{following_agrees}
 use Rattle.byte_store.proofs.runs.following_gives_agree.Goals as goal
 
 pub returns : goal.returns

@@ -1,4 +1,4 @@
-use Rattle.byte_store.proofs.Progress.{progress}
+use Rattle.byte_store.proofs.ProgressAgrees.{progress}
 use Rattle.byte_store.proofs.runs.progress_gives_agree.Goals as goal
 
 pub returns : goal.returns

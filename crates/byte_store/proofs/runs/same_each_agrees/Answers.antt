@@ -1,4 +1,4 @@
-use Rattle.byte_store.proofs.Agree.{same_agrees}
+use Rattle.byte_store.proofs.AgreementComposes.{same_agrees}
 use Rattle.byte_store.proofs.runs.same_each_agrees.Goals as goal
 
 pub returns : goal.returns

@@ -7,8 +7,8 @@ use Rattle.std.specs.Ordering.{nat_cmp}
 use Rattle.std.proofs.lemmas.Int.{to_z-of_z}
 use Rattle.byte_store.specs.Inside.{seen, seen_numbered, edited}
 use Rattle.byte_store.specs.Operations.{and_then, inside}
-use Rattle.byte_store.proofs.Lookups.{find_is, replaced_is}
-use Rattle.byte_store.proofs.Edits.{replaces, fixed_same}
+use Rattle.byte_store.proofs.NumbersAreFound.{find_is, replaced_is}
+use Rattle.byte_store.proofs.EditsReplaceByNumber.{replaces, fixed_same}
 use Rattle.byte_store.proofs.store.edit_fixed.Goals as goal
 
 pub returns-in-Some : goal.returns-in-Some

@@ -6,7 +6,7 @@ use Rattle.std.proofs.lemmas.Int.{to_z-of_z}
 use Rattle.std.proofs.lemmas.List.{map-set}
 use Rattle.std.proofs.lemmas.Option.{slice_get-map, slice_get_read}
 use Rattle.byte_store.specs.Inside.{seen, edited}
-use Rattle.byte_store.proofs.Edits.{replaces, made_same}
+use Rattle.byte_store.proofs.EditsReplaceByNumber.{replaces, made_same}
 use Rattle.byte_store.proofs.store.edit_made.Goals as goal
 
 pub returns : goal.returns

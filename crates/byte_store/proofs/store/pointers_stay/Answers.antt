@@ -1,4 +1,4 @@
-use Rattle.byte_store.proofs.Validity.{stay}
+use Rattle.byte_store.proofs.PointersStay.{stay}
 use Rattle.byte_store.proofs.store.pointers_stay.Goals as goal
 
 pub returns : goal.returns

@@ -1,7 +1,7 @@
 use Rattle.std.proofs.Common.{◌≡◌, sym, refl, ◌∙◌, to_z, of_z}
 use Rattle.std.specs.Int.{w64}
 use Rattle.std.proofs.lemmas.Int.{to_z-of_z}
-use Rattle.ps_prims.proofs.Changing.{put_is_further}
+use Rattle.ps_prims.proofs.ChangesAreTheRows.{put_is_further}
 use Rattle.ps_prims.proofs.changes.change_cell.Goals as goal
 
 pub returns-in-Err : goal.returns-in-Err

@@ -1,4 +1,4 @@
-use Rattle.ps_prims.proofs.Dividing.{rounded, undefined}
+use Rattle.ps_prims.proofs.DivisionsAreRounded.{rounded, undefined}
 use Rattle.ps_prims.proofs.laws.divisions_are_rounded.Goals as goal
 
 pub returns-clause-rounded : goal.returns-clause-rounded

@@ -1,4 +1,4 @@
-use Rattle.ps_prims.proofs.Shifts.{round_down, undefined}
+use Rattle.ps_prims.proofs.ShiftsRoundDown.{round_down, undefined}
 use Rattle.ps_prims.proofs.laws.shifts_round_down.Goals as goal
 
 pub returns-clause-rounded : goal.returns-clause-rounded

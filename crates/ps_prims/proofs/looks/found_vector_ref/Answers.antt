@@ -1,7 +1,7 @@
 use Rattle.std.proofs.Common.{◌≡◌, sym, refl, ◌∙◌, to_z, of_z}
 use Rattle.std.specs.Int.{w64}
 use Rattle.std.proofs.lemmas.Int.{to_z-of_z}
-use Rattle.ps_prims.proofs.Further.{get_is_further}
+use Rattle.ps_prims.proofs.WhatIsReadIsAPlace.{get_is_further}
 use Rattle.ps_prims.proofs.looks.found_vector_ref.Goals as goal
 
 pub returns-in-Err-move_by : goal.returns-in-Err-move_by

@@ -1,4 +1,4 @@
-use Rattle.ps_prims.proofs.Worldly.{performs}
+use Rattle.ps_prims.proofs.PerformsTheRow.{performs}
 use Rattle.ps_prims.proofs.performing.perform.Goals as goal
 
 pub returns : goal.returns

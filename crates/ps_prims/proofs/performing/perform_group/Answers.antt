@@ -1,6 +1,6 @@
 use Rattle.ps_prims.specs.declared.stages.Stage.TheVariants.{Compile}
-use Rattle.ps_prims.proofs.Making.{room_for_block}
-use Rattle.ps_prims.proofs.Worldly.{quiet_wants, wants, takes_at_run}
+use Rattle.ps_prims.proofs.MakesAreTheRows.{room_for_block}
+use Rattle.ps_prims.proofs.PerformsTheRow.{quiet_wants, wants, takes_at_run}
 use Rattle.ps_prims.proofs.performing.perform_group.Goals as goal
 
 pub perform_make-requires-clause-room : goal.perform_make-requires-clause-room

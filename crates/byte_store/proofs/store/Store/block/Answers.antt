@@ -3,7 +3,7 @@ use Rattle.std.specs.Prelude.{slice_get}
 use Rattle.std.specs.Option.{option_map, option_copied}
 use Rattle.std.proofs.lemmas.Option.{slice_get-map}
 use Rattle.byte_store.specs.Inside.{seen}
-use Rattle.byte_store.proofs.Lookups.{find_is}
+use Rattle.byte_store.proofs.NumbersAreFound.{find_is}
 use Rattle.byte_store.proofs.store.Store.block.Goals as goal
 
 pub returns-in-Fixed : goal.returns-in-Fixed

@@ -2,7 +2,7 @@ use Rattle.std.proofs.Common.{map, ◌∙◌}
 use Rattle.std.specs.Int.{w128}
 use Rattle.std.proofs.lemmas.Int.{to_z-of_z}
 use Rattle.byte_store.specs.Inside.{edited, seen, seen_numbered}
-use Rattle.byte_store.proofs.Changes.{fixed_leaves, made_leaves, edited_next}
+use Rattle.byte_store.proofs.EditsChangeOneBlock.{fixed_leaves, made_leaves, edited_next}
 use Rattle.byte_store.proofs.store.Store.edit_at.Goals as goal
 
 pub invariant_of-self : goal.invariant_of-self

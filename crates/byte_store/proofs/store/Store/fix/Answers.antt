@@ -2,7 +2,7 @@ use Rattle.std.proofs.Common.{◌≡◌, ◌≤◌, ◌++◌, ◌∷◌, [], Lis
 use Rattle.std.proofs.lemmas.List.{map-append}
 use Rattle.byte_store.specs.Blocks.{Block, next_number}
 use Rattle.byte_store.specs.Inside.{seen, seen_numbered}
-use Rattle.byte_store.proofs.Lookups.{inserted_last, next_after, next_shown}
+use Rattle.byte_store.proofs.NumbersAreFound.{inserted_last, next_after, next_shown}
 use Rattle.byte_store.proofs.store.Store.fix.Goals as goal
 
 pub invariant_of-self-2 : goal.invariant_of-self-2

@@ -3,7 +3,7 @@ use Rattle.std.specs.Int.{w64}
 use Rattle.std.proofs.lemmas.Int.{to_z-of_z}
 use Rattle.byte_store.specs.Store.{Leaves}
 use Rattle.byte_store.specs.Operations.{bytes_of_word, change, with_bytes}
-use Rattle.byte_store.proofs.Changes.{plus_zero}
+use Rattle.byte_store.proofs.EditsChangeOneBlock.{plus_zero}
 use Rattle.byte_store.proofs.store.Store.set_word.Goals as goal
 
 pub returns : goal.returns

@@ -1,6 +1,6 @@
 use Rattle.std.proofs.Common.{drop, List, Bool, ap, sym}
 use Rattle.byte_store.specs.Worlds.{Surroundings}
-use Rattle.byte_store.proofs.Remainders.{rest-drop}
+use Rattle.byte_store.proofs.RestOfDrop.{rest-drop}
 use Rattle.byte_store.proofs.world.World.use_grant.Goals as goal
 
 pub returns-then-self-len : goal.returns-then-self-len
