@@ -1,4 +1,5 @@
 -- Induction over data, and the clauses of a fold.
+-- For: the laws of the crates above that go over data, as written_data_read_again
 use Rattle.std.proofs.Common.{◌≡◌, ℕ, ℤ, Bool, List, [], ◌∷◌, map, sym, ap, ◌∙◌, subst}
 use Rattle.std.specs.List.{AllByRecursion}
 use Rattle.ps_base.specs.declared.faults.Place.{Place}

@@ -1,2 +1,3 @@
 pub mod Weight
 pub mod Writing
+pub mod InsideWriting

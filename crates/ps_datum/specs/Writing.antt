@@ -1,10 +1,8 @@
 -- The text of a datum, where a table lists the names (this project's own, after R5RS 6.3).
-use Rattle.std.specs.Prelude.{◌≡◌, ℕ, zero, suc, nat_lt, Result, Ok, Err, Bool, true, false, ◌&&◌, ◌==◌, ◌||◌, if◌then◌else◌, List, [], ◌∷◌, ◌++◌, codes, length, slice_index_or}
+use Rattle.std.specs.Prelude.{◌≡◌, ℕ, nat_lt, Bool, true, false, ◌&&◌, ◌==◌, ◌||◌, if◌then◌else◌, List, [], ◌∷◌, ◌++◌, codes, length, slice_index_or}
 use Rattle.std.specs.List.{flat_map}
 use Rattle.std.specs.Fmt.{signed_decimal}
-use Rattle.ps_base.specs.declared.memory.NoMemory.{NoMemory}
 use Rattle.ps_datum.specs.declared.datum.Datum.{Datum, fold-Datum}
-use Rattle.ps_datum.specs.declared.datum.DatumKind.{DatumKind, fold-DatumKind}
 use Rattle.ps_datum.specs.declared.datum.DatumKind.TheOpen.{DatumKind-F}
 
 abbrev pub Text : Type 0
@@ -30,9 +28,6 @@ known_node names (DatumKind-F.Vector bs) = all_known bs
 abbrev pub is_known : List Text → Datum → Bool
 is_known names = fold-Datum Bool Bool (known_node names) (λ d. d.kind)
 
-abbrev pub kind_known : List Text → DatumKind → Bool
-kind_known names = fold-DatumKind Bool Bool (known_node names) (λ d. d.kind)
-
 -- ---- the text
 
 -- a backslash before each backslash and each double quote
@@ -50,11 +45,6 @@ abbrev pub spaced : List Text → Text
 spaced [] = []
 spaced (x ∷ xs) = x ++ flat_map (λ y. 32 ∷ y) xs
 
--- what stands before the part at a place
-abbrev pub space_before : ℕ → Text
-space_before zero = []
-space_before (suc i) = 32 ∷ []
-
 -- a kind, where the parts have these texts
 abbrev pub text_node : List Text → DatumKind-F Text Text → Text
 text_node names (DatumKind-F.Boolean true) = codes "#t"
@@ -70,10 +60,7 @@ text_node names (DatumKind-F.Vector parts) = 35 ∷ 40 ∷ spaced parts ++ 41 �
 unfoldable pub written : List Text → Datum → Text
 written names d = fold-Datum Text Text (text_node names) (λ x. x.kind) d
 
-unfoldable pub kind_written : List Text → DatumKind → Text
-kind_written names x = fold-DatumKind Text Text (text_node names) (λ y. y.kind) x
-
--- ---- what becomes of a list of bytes
+-- ---- what becomes of a list of bytes where memory runs out
 
 -- a front of the text was appended
 pub record Cut (old new text : Text) : Type 0 where
@@ -81,12 +68,3 @@ pub record Cut (old new text : Text) : Type 0 where
   pub rest : Text
   pub parts : text ≡ front ++ rest
   pub appended : new ≡ old ++ front
-
--- all of the text was appended, or a front of it and then memory ran out
-abbrev pub Writes : Text → Text → Text → Result (Unit {0}) NoMemory → Type 0
-Writes old new text (Ok done) = new ≡ old ++ text
-Writes old new text (Err e) = Cut old new text
-
--- Where texts are written one after another until memory runs out: from one state and result to the next, the text was added.
-pub record Adds (old : Text) (before : Result (Unit {0}) NoMemory) (new : Text) (after : Result (Unit {0}) NoMemory) (text : Text) : Type 0 where
-  pub holds : (start front : Text) → Writes start old front before → Writes start new (front ++ text) after

@@ -1,4 +1,6 @@
 //! Data: what a text is before anything is known of its words.
+//!
+//! From a datum and the table of its names to its text, by `write_datum`, for `written` of `specs/Writing.antt`.
 #![tactic(auto)]
 
 mod datum;
@@ -6,6 +8,3 @@ mod writing;
 
 pub use datum::{Datum, DatumKind};
 pub use writing::{has_known_names, write_datum};
-
-#[cfg(test)]
-mod tests;

@@ -4,7 +4,8 @@
 ghost use Rattle.std.specs.Prelude.{◌≡◌, ◌++◌, ◌∷◌, [], true, map, OnOk, OnErr};
 ghost use Rattle.std.specs.List.{flat_map};
 ghost use Rattle.std.specs.Fmt.{signed_decimal};
-ghost use Rattle.ps_datum.specs.Writing.{Adds, Cut, all_known, is_known, kind_known, escaped_byte, string_text, char_text, space_before, spaced, kind_written, written};
+ghost use Rattle.ps_datum.specs.Writing.{Cut, all_known, is_known, escaped_byte, string_text, char_text, spaced, written};
+ghost use Rattle.ps_datum.specs.InsideWriting.{Adds, kind_known, space_before, kind_written};
 
 use crate::datum::{Datum, DatumKind};
 use itoa::Buffer;
@@ -91,7 +92,7 @@ fn put_char(out: &mut Bytes, so_far: Written, code: u8) -> Written
 
 // What a datum is, without its place.
 #[cycle(writing)]
-#[tactic(auto, unfolding(crate::specs::Writing::kind_written, crate::specs::Writing::written))]
+#[tactic(auto, unfolding(crate::specs::InsideWriting::kind_written, crate::specs::Writing::written))]
 fn put_kind(out: &mut Bytes, so_far: Written, kind: &DatumKind, names: &Names) -> Written
     requires { kind_known names.now kind.now ≡ true }
     ensures { Adds out.old so_far out.new result (kind_written names.now kind.now) }
@@ -150,7 +151,7 @@ fn put_items(out: &mut Bytes, so_far: Written, items: &[Datum], names: &Names) -
 
 // A datum.
 #[cycle(writing)]
-#[tactic(auto, unfolding(crate::specs::Writing::kind_written, crate::specs::Writing::written))]
+#[tactic(auto, unfolding(crate::specs::InsideWriting::kind_written, crate::specs::Writing::written))]
 fn put_datum(out: &mut Bytes, so_far: Written, datum: &Datum, names: &Names) -> Written
     requires { is_known names.now datum.now ≡ true }
     ensures { Adds out.old so_far out.new result (written names.now datum.now) }

@@ -1,8 +1,9 @@
+pub mod Lexical
 pub mod Grammar
 pub mod Breaches
-pub mod Machine
-pub mod First
-pub mod Lexical
 pub mod Reading
+pub mod First
 pub mod Laws
 pub mod Again
+pub mod InsideMachine
+pub mod InsideReading

@@ -1,5 +1,6 @@
--- What reading a text answers.
-use Rattle.std.specs.Prelude.{◌≡◌, ℕ, ◌<◌, ◌≤◌, List, [], ◌++◌, true, Result, Ok, Err}
+-- What reading a text answers (this project's own): `Reads`, that a text is some data, by the tokens of `Lexical` and the
+-- grammar of `Grammar`; `Refuses`, that it is refused for its first breach, by `Breaches`; and what is said of the table of names.
+use Rattle.std.specs.Prelude.{◌≡◌, ℕ, List, ◌++◌, true, Result, Ok, Err}
 use Rattle.std.specs.List.{AllByRecursion}
 use Rattle.ps_base.specs.declared.faults.Fault.{Fault}
 use Rattle.ps_base.specs.declared.faults.Fault.TheVariants as faults
@@ -8,12 +9,9 @@ use Rattle.ps_base.specs.declared.faults.Refusal.TheVariants as r
 use Rattle.ps_datum.specs.declared.datum.Datum.{Datum}
 use Rattle.ps_datum.specs.Writing.{is_known}
 use Rattle.ps_read.specs.declared.token.Breach.{Breach}
-use Rattle.ps_read.specs.declared.token.Front.{Front}
-use Rattle.ps_read.specs.declared.token.Front.TheVariants.{Gap, Whole, Named, Quoted, Stop}
 use Rattle.ps_read.specs.declared.token.Token.{Token}
 use Rattle.ps_read.specs.Grammar.{AreData}
 use Rattle.ps_read.specs.Breaches.{FirstBreach}
-use Rattle.ps_read.specs.Machine.{Answer, run}
 use Rattle.ps_read.specs.Lexical.{Table, is_identifier, small, tokens_of, listed}
 
 -- the text is these data and nothing else, where the first of these tables lists the names that are known before, and the
@@ -68,33 +66,3 @@ pub record AreNames (names : Table) : Type 0 where
 pub record Grown (before behind : Table) : Type 0 where
   pub more : Table
   pub is : behind ≡ before ++ more
-
--- ---- private to the reader: what its parts answer
-
--- a refusal of the machine's run
-abbrev pub Fails : Refusal → Answer → Type 0
-Fails r.NoMemory a = Unit {0}
-Fails (r.Fault f) a = (b : Breach) × IsSyntax f b × (a ≡ Err b)
-
-abbrev pub Gives : Result (List Datum) Refusal → Answer → Type 0
-Gives (Ok ds) a = a ≡ Ok ds
-Gives (Err e) a = Fails e a
-
-unfoldable pub answer : Table → ℕ → List ℕ → Answer
-answer names file text = run ([], []) (tokens_of names file text)
-
--- what the front takes of n bytes
-abbrev pub Within : ℕ → Front → Type 0
-Within n (Gap m) = (0 < m) × (m ≤ n)
-Within n (Whole m x) = (0 < m) × (m ≤ n)
-Within n (Named m x) = (0 < m) × (m ≤ n)
-Within n Quoted = 1 ≤ n
-Within n (Stop m kind) = m < n
-
--- names have their numbers
-abbrev pub IsResolved : Front → Type 0
-IsResolved (Named n x) = ⊥
-IsResolved Quoted = ⊥
-IsResolved (Gap n) = Unit {0}
-IsResolved (Whole n x) = Unit {0}
-IsResolved (Stop n kind) = Unit {0}

@@ -7,7 +7,7 @@ ghost use Rattle.ps_base.specs.declared.faults.SyntaxKind.TheVariants as b;
 ghost use Rattle.ps_read.specs.declared.token.Front.TheVariants as front;
 ghost use Rattle.ps_read.specs.declared.token.Word.TheVariants as w;
 ghost use Rattle.ps_read.specs.Lexical as spec;
-ghost use Rattle.ps_read.specs.Reading.{Within};
+ghost use Rattle.ps_read.specs.InsideReading.{Within};
 
 use crate::bytes::{byte, is, is_without_case, past};
 use crate::numbers::{behind_sign, integer_word, is_digit, is_float, is_numeral, marked_word};

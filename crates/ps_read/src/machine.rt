@@ -6,7 +6,7 @@ ghost use Rattle.ps_datum.specs.declared.datum.DatumKind.TheVariants as k;
 ghost use Rattle.ps_read.specs.declared.token.Shape.TheVariants as s;
 ghost use Rattle.ps_read.specs.Grammar.{datum, quoted, joined};
 ghost use Rattle.ps_read.specs.Breaches.{breach, breach_at, datum_breach, close_breach, dot_breach, open_breach};
-ghost use Rattle.ps_read.specs.Machine.{frame, put, closed, close, dot, moved};
+ghost use Rattle.ps_read.specs.InsideMachine.{frame, put, closed, close, dot, moved};
 
 use crate::stack::Stack;
 use crate::token::{Breach, Frame, Shape, Word};
@@ -107,7 +107,7 @@ fn ended(place: Place, dot: Place, tail: Datum, items: Items<Datum>) -> Frame
 }
 
 // Adds one more datum, which also ends the quotes that stand directly before it.
-#[tactic(auto, unfolding(crate::specs::Machine::put))]
+#[tactic(auto, unfolding(crate::specs::InsideMachine::put))]
 fn add(
     alloc: Global,
     done: &mut Items<Datum>,
@@ -279,7 +279,7 @@ fn dot(stack: &mut Stack<Frame>, place: Place) -> Result<(), NoMemory>
 /// # Errors
 ///
 /// `NoMemory` where memory ran out.
-#[tactic(auto, unfolding(crate::specs::Machine::moved))]
+#[tactic(auto, unfolding(crate::specs::InsideMachine::moved))]
 pub(crate) fn take(
     alloc: Global,
     done: &mut Items<Datum>,

@@ -8,8 +8,9 @@ ghost use Rattle.ps_read.specs.Grammar.{AreData};
 ghost use Rattle.ps_read.specs.Breaches.{FirstBreach};
 ghost use Rattle.ps_read.specs.Lexical as spec;
 ghost use Rattle.ps_read.specs.Lexical.{tokens_of};
-ghost use Rattle.ps_read.specs.Machine.{Answer, run};
-ghost use Rattle.ps_read.specs.Reading.{Reads, IsReadUnlessMemory, Refuses, IsBreachUnlessMemory, AllKnown, AreNames, Grown, Fails, Gives, Within, IsResolved, answer};
+ghost use Rattle.ps_read.specs.InsideMachine.{Answer, run};
+ghost use Rattle.ps_read.specs.Reading.{Reads, IsReadUnlessMemory, Refuses, IsBreachUnlessMemory, AllKnown, AreNames, Grown};
+ghost use Rattle.ps_read.specs.InsideReading.{Fails, Gives, Within, IsResolved, answer};
 
 use crate::lexer::front_of;
 use crate::machine::{breach_of, take};
@@ -133,7 +134,7 @@ fn step(
 }
 
 // Reads a text as the machine does.
-#[tactic(auto, unfolding(crate::specs::Reading::answer))]
+#[tactic(auto, unfolding(crate::specs::InsideReading::answer))]
 fn read_text(
     alloc: Global,
     text: &[u8],

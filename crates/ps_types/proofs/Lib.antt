@@ -1,4 +1,4 @@
-pub mod Searches
-pub mod Numbers
-pub mod Parts
-pub mod Noting
+pub mod SearchesFindTheLeast
+pub mod DifferentMembersCount
+pub mod TextsComeByParts
+pub mod NotedVariablesAreNumbered

@@ -1,3 +1,4 @@
 pub mod Writing
-pub mod Search
-pub mod Firsts
+pub mod InsideWriting
+pub mod InsideFirsts
+pub mod InsideSearch

@@ -2,7 +2,7 @@
 -- Read the last definition first: `type_text kinds names t` is the text of t as the cases of `text_node` put it together
 -- from the texts of its parts. A variable is `t` and its number, which counts the different variables that stand before
 -- the first place where it appears in t.
-use Rattle.std.specs.Prelude.{ℕ, zero, suc, nat_lt, Bool, true, false, ◌&&◌, ◌||◌, ◌==◌, if◌then◌else◌, List, [], ◌∷◌, ◌++◌, Option, Some, None, codes, decimal, length, slice_get, slice_index_or}
+use Rattle.std.specs.Prelude.{ℕ, suc, nat_lt, Bool, true, false, ◌&&◌, ◌||◌, ◌==◌, if◌then◌else◌, List, [], ◌∷◌, ◌++◌, Option, Some, None, codes, decimal, length, slice_get, slice_index_or}
 use Rattle.std.specs.List.{concat}
 use Rattle.ps_base.specs.Texts.{◌&◌}
 use Rattle.ps_types.specs.declared.types.Ty.{Ty, Ty-F, fold-Ty}
@@ -86,11 +86,6 @@ abbrev pub is_known : List RecordKind → List Text → Ty → Bool
 is_known kinds names = fold-Ty Bool (known_node kinds names)
 
 -- ---- the text
-
--- what stands before the part at a place
-abbrev pub space_before : ℕ → Text
-space_before zero = []
-space_before (suc i) = codes " "
 
 -- the parts from the second on, each behind a space
 abbrev pub next_parts : List Text → Text

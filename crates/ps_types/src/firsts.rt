@@ -3,7 +3,7 @@
 ghost use Rattle.std.specs.Prelude.{◌≡◌, false, map, MatchOption, slice_get, Some};
 ghost use Rattle.std.specs.List.{concat, fold};
 ghost use Rattle.ps_types.specs.Writing.{variables, number, stands_in};
-ghost use Rattle.ps_types.specs.Firsts.{noted, Numbered};
+ghost use Rattle.ps_types.specs.InsideFirsts.{noted, Numbered};
 
 use crate::numbering::number_of;
 use crate::types::Ty;
@@ -25,7 +25,7 @@ fn place_of(firsts: &[u32], variable: u32) -> Option<usize>
 }
 
 // One more variable was met. It is noted, unless it was noted before or there is no room.
-#[tactic(auto, using(crate::proofs::Noting::noted_again, crate::proofs::Noting::noted_full))]
+#[tactic(auto, using(crate::proofs::NotedVariablesAreNumbered::noted_again, crate::proofs::NotedVariablesAreNumbered::noted_full))]
 fn note(firsts: &mut Firsts, variable: u32)
     ensures { firsts.new.items ≡ noted firsts.old.items variable }
 {
@@ -72,7 +72,7 @@ fn note_types(types: &[Ty], firsts: &mut Firsts)
 }
 
 /// The different variables of a type, in the order in which they first appear.
-#[tactic(auto, using(crate::proofs::Noting::all_numbered))]
+#[tactic(auto, using(crate::proofs::NotedVariablesAreNumbered::all_numbered))]
 pub fn firsts_of(t: &Ty) -> Firsts
     ensures { Numbered (variables t.now) result.items }
 {

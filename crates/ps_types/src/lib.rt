@@ -1,4 +1,5 @@
-//! Types, and how they are written.
+//! Types: from a type, the kinds of records and the table of their names to its text, by `write_type`, for `type_text` of
+//! `specs/Writing.antt`.
 #![tactic(auto)]
 
 mod firsts;
@@ -8,6 +9,3 @@ mod writing;
 
 pub use types::{Kinds, RecordKind, Scheme, Ty, Tys};
 pub use writing::{has_known_records, write_type};
-
-#[cfg(test)]
-mod tests;

@@ -3,7 +3,7 @@
 ghost use Rattle.std.specs.Prelude.{◌≡◌, map};
 ghost use Rattle.std.specs.List.{concat, fold};
 ghost use Rattle.ps_types.specs.Writing.{variables, before, number};
-ghost use Rattle.ps_types.specs.Search.{lower_of, seen, Least};
+ghost use Rattle.ps_types.specs.InsideSearch.{lower_of, seen, Least};
 
 use crate::types::Ty;
 

@@ -3,8 +3,9 @@
 ghost use Rattle.std.specs.Prelude.{◌≡◌, true, map, codes, decimal};
 ghost use Rattle.ps_base.specs.Sinks.{Adds, Writes};
 ghost use Rattle.ps_base.specs.Texts.{◌&◌};
-ghost use Rattle.ps_types.specs.Firsts.{Numbered};
-ghost use Rattle.ps_types.specs.Writing.{variables, all_known, is_known, kind_known, kind_text, space_before, spaced, text_in, type_text};
+ghost use Rattle.ps_types.specs.InsideFirsts.{Numbered};
+ghost use Rattle.ps_types.specs.Writing.{variables, all_known, is_known, kind_known, kind_text, spaced, text_in, type_text};
+ghost use Rattle.ps_types.specs.InsideWriting.{space_before};
 
 use crate::firsts::{firsts_of, number_in};
 use crate::types::{RecordKind, Ty};

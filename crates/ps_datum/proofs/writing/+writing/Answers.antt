@@ -3,8 +3,9 @@ use denote.Param.Weighed.{most, at_most}
 use Rattle.ps_datum.proofs.datum.Datum.TheLaws.{the_size}
 use Rattle.std.proofs.lemmas.Option.{get_or_from_slice_get}
 use Rattle.ps_datum.specs.declared.datum.Datum.{Datum}
-use Rattle.ps_datum.specs.Writing.{kind_written, written, spaced}
-use Rattle.ps_datum.proofs.Parts.{adds_then, adds_part, adds_text, part_known, of_symbol, of_list, of_vector, of_dotted}
+use Rattle.ps_datum.specs.Writing.{written, spaced}
+use Rattle.ps_datum.specs.InsideWriting.{kind_written}
+use Rattle.ps_datum.proofs.TextsComeByParts.{adds_then, adds_part, adds_text, part_known, of_symbol, of_list, of_vector, of_dotted}
 use Rattle.ps_datum.proofs.writing.+writing.Goals as goal
 
 pub put_kind-returns-in-List : goal.put_kind-returns-in-List

@@ -1,7 +1,8 @@
 use Rattle.std.proofs.Common.{List, ℕ, map, Result}
 use Rattle.ps_base.specs.declared.memory.NoMemory.{NoMemory}
-use Rattle.ps_datum.specs.Writing.{Adds, spaced, written}
-use Rattle.ps_datum.proofs.Parts.{spaced_from}
+use Rattle.ps_datum.specs.Writing.{spaced, written}
+use Rattle.ps_datum.specs.InsideWriting.{Adds}
+use Rattle.ps_datum.proofs.TextsComeByParts.{spaced_from}
 use Rattle.ps_datum.proofs.writing.+writing.Given as goal
 
 -- what adds the rest has added all

@@ -1,4 +1,4 @@
-use Rattle.ps_datum.proofs.Parts.{adds_byte}
+use Rattle.ps_datum.proofs.TextsComeByParts.{adds_byte}
 use Rattle.ps_datum.proofs.writing.put.Goals as goal
 
 pub loop-byte-preserved : goal.loop-byte-preserved

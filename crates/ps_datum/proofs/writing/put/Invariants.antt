@@ -1,6 +1,6 @@
 use Rattle.std.proofs.Common.{List, ℕ, drop, Result}
 use Rattle.ps_base.specs.declared.memory.NoMemory.{NoMemory}
-use Rattle.ps_datum.specs.Writing.{Adds}
+use Rattle.ps_datum.specs.InsideWriting.{Adds}
 use Rattle.ps_datum.proofs.writing.put.Given as goal
 
 -- what adds the rest has added all

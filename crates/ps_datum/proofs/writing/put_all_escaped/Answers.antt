@@ -1,5 +1,5 @@
 use Rattle.ps_datum.specs.Writing.{escaped_byte}
-use Rattle.ps_datum.proofs.Parts.{adds_each}
+use Rattle.ps_datum.proofs.TextsComeByParts.{adds_each}
 use Rattle.ps_datum.proofs.writing.put_all_escaped.Goals as goal
 
 pub loop-byte-preserved : goal.loop-byte-preserved

@@ -1,7 +1,8 @@
 use Rattle.std.proofs.Common.{List, ℕ, drop, Result}
 use Rattle.std.specs.List.{flat_map}
 use Rattle.ps_base.specs.declared.memory.NoMemory.{NoMemory}
-use Rattle.ps_datum.specs.Writing.{Adds, escaped_byte}
+use Rattle.ps_datum.specs.Writing.{escaped_byte}
+use Rattle.ps_datum.specs.InsideWriting.{Adds}
 use Rattle.ps_datum.proofs.writing.put_all_escaped.Given as goal
 
 -- what adds the rest has added all

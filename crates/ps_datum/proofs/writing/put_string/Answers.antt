@@ -1,4 +1,4 @@
-use Rattle.ps_datum.proofs.Parts.{adds_then}
+use Rattle.ps_datum.proofs.TextsComeByParts.{adds_then}
 use Rattle.ps_datum.proofs.writing.put_string.Goals as goal
 
 pub returns : goal.returns

@@ -1,4 +1,4 @@
-use Rattle.ps_datum.proofs.Parts.{all_written, cut_short}
+use Rattle.ps_datum.proofs.TextsComeByParts.{all_written, cut_short}
 use Rattle.ps_datum.proofs.writing.write_datum.Goals as goal
 
 pub returns-clause-written : goal.returns-clause-written

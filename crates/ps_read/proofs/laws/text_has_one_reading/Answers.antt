@@ -1,5 +1,5 @@
 use Rattle.std.proofs.Common.{◌≡◌, Ok, sym, ◌∙◌}
-use Rattle.ps_read.proofs.Clauses.{is_answer}
+use Rattle.ps_read.proofs.AnswersMeetClauses.{is_answer}
 use Rattle.ps_read.proofs.laws.text_has_one_reading.Goals as goal
 
 pub returns : goal.returns

@@ -1,5 +1,5 @@
 use Rattle.std.proofs.Common.{◌≡◌, length}
-use Rattle.ps_read.specs.Machine.{put}
+use Rattle.ps_read.specs.InsideMachine.{put}
 use Rattle.ps_read.proofs.machine.add.Given as goal
 
 abbrev pub invariant-loop-place : goal.invariant-loop-place

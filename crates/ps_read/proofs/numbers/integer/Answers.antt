@@ -3,7 +3,7 @@ use Rattle.std.specs.Str.Parse.{without_leading_sign, signed_digits_value}
 use Rattle.std.proofs.lemmas.Str.{IsUtf8-from_ascii}
 use Rattle.ps_base.specs.Numbers.{fit}
 use Rattle.ps_read.specs.Lexical.{is_numeral}
-use Rattle.ps_read.proofs.Integers.{IsNumeral-from_test, signed_ascii, parsed}
+use Rattle.ps_read.proofs.DigitsAreParsed.{IsNumeral-from_test, signed_ascii, parsed}
 use Rattle.ps_read.proofs.numbers.integer.Goals as goal
 
 pub returns-in_default : goal.returns-in_default

@@ -2,9 +2,9 @@ use Rattle.std.proofs.Common.{length, drop, ap, sym, subst, ◌∙◌, arith}
 use Rattle.std.specs.Prelude.{slice_index}
 use Rattle.ps_read.specs.Lexical.{resolved, noted}
 use Rattle.ps_read.specs.Reading.{AreNames}
-use Rattle.ps_read.proofs.Identifiers.{noted_names}
-use Rattle.ps_read.proofs.Texts.{next_is, noted_within}
-use Rattle.ps_read.proofs.GrownTables.{grown_front}
+use Rattle.ps_read.proofs.NamesAreIdentifiers.{noted_names}
+use Rattle.ps_read.proofs.TokensComeByFronts.{next_is, noted_within}
+use Rattle.ps_read.proofs.TablesOnlyGrow.{grown_front}
 use Rattle.ps_read.proofs.reading.next_front.Goals as goal
 
 pub returns-clause-within : goal.returns-clause-within

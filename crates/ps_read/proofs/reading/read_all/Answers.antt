@@ -1,4 +1,4 @@
-use Rattle.ps_read.proofs.Clauses.{read, only, refused, first, small, known}
+use Rattle.ps_read.proofs.AnswersMeetClauses.{read, only, refused, first, small, known}
 use Rattle.ps_read.proofs.reading.read_all.Goals as goal
 
 pub returns-clause-read : goal.returns-clause-read

@@ -1,8 +1,8 @@
 use Rattle.std.proofs.Common.{◌≡◌, [], length, sym, ap, ◌∙◌, rules, arith}
 use Rattle.std.proofs.lemmas.Grind.{common_steps}
 use Rattle.std.proofs.lemmas.List.{nil_from_length}
-use Rattle.ps_read.specs.Machine.{finish}
-use Rattle.ps_read.proofs.Texts.{at_end, listed_end}
+use Rattle.ps_read.specs.InsideMachine.{finish}
+use Rattle.ps_read.proofs.TokensComeByFronts.{at_end, listed_end}
 use Rattle.ps_read.proofs.reading.read_text.Goals as goal
 
 pub returns-in-None : goal.returns-in-None

@@ -1,7 +1,8 @@
 use Rattle.std.proofs.Common.{◌≡◌, ◌+◌, ◌≤◌, length}
-use Rattle.ps_read.specs.Machine.{run}
+use Rattle.ps_read.specs.InsideMachine.{run}
 use Rattle.ps_read.specs.Lexical.{tokens, listed}
-use Rattle.ps_read.specs.Reading.{answer, AreNames, Grown}
+use Rattle.ps_read.specs.Reading.{AreNames, Grown}
+use Rattle.ps_read.specs.InsideReading.{answer}
 use Rattle.ps_read.proofs.reading.read_text.Given as goal
 
 abbrev pub invariant-loop-rest : goal.invariant-loop-rest

@@ -1,7 +1,7 @@
 use Rattle.std.proofs.Common.{ap, sym, ◌∙◌, subst, ℕ, List}
 use Rattle.ps_base.specs.Names.{Adds}
 use Rattle.ps_read.specs.Lexical.{resolved, noted}
-use Rattle.ps_read.proofs.Tables.{named, quote_named}
+use Rattle.ps_read.proofs.AddedNamesAreNumbered.{named, quote_named}
 use Rattle.ps_read.proofs.reading.resolve.Goals as goal
 
 pub returns-in_ok-name-in-Named-clause-value : goal.returns-in_ok-name-in-Named-clause-value

@@ -1,7 +1,7 @@
 use Rattle.std.proofs.Common.{sym, ap, ◌∙◌, Err}
 use Rattle.ps_base.specs.declared.faults.Place.{Place}
 use Rattle.ps_read.specs.Lexical.{taken}
-use Rattle.ps_read.proofs.Texts.{at_gap, at_stop, at_breach, at_token, at_listed}
+use Rattle.ps_read.proofs.TokensComeByFronts.{at_gap, at_stop, at_breach, at_token, at_listed}
 use Rattle.ps_read.proofs.reading.step.Goals as goal
 
 pub returns-in-Gap-clause-ok : goal.returns-in-Gap-clause-ok

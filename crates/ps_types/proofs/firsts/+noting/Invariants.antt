@@ -1,7 +1,7 @@
 use Rattle.std.proofs.Common.{◌≡◌, drop, map}
 use Rattle.std.specs.List.{concat, fold}
 use Rattle.ps_types.specs.Writing.{variables}
-use Rattle.ps_types.specs.Firsts.{noted}
+use Rattle.ps_types.specs.InsideFirsts.{noted}
 use Rattle.ps_types.proofs.firsts.+noting.Given as goal
 
 -- noting the rest ends as noting all

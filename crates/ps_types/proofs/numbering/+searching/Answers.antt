@@ -1,7 +1,7 @@
 use Rattle.std.proofs.Common.{sym, ◌∙◌, drop, map}
 use Rattle.std.specs.List.{concat}
 use Rattle.ps_types.specs.Writing.{variables}
-use Rattle.ps_types.proofs.Searches.{met_stays}
+use Rattle.ps_types.proofs.SearchesFindTheLeast.{met_stays}
 use Rattle.ps_types.proofs.numbering.+searching.Goals as goal
 
 pub search_types-returns-then-search : goal.search_types-returns-then-search

@@ -1,7 +1,7 @@
 use Rattle.std.proofs.Common.{◌≡◌, drop, map}
 use Rattle.std.specs.List.{concat, fold}
 use Rattle.ps_types.specs.Writing.{variables}
-use Rattle.ps_types.specs.Search.{seen}
+use Rattle.ps_types.specs.InsideSearch.{seen}
 use Rattle.ps_types.proofs.numbering.+searching.Given as goal
 
 -- the search over the rest ends as that over all

@@ -1,6 +1,6 @@
 use Rattle.std.proofs.Common.{arith, rules}
 use Rattle.ps_types.specs.Writing.{variables, before}
-use Rattle.ps_types.proofs.Numbers.{all_from_0, none_counts, least_counts}
+use Rattle.ps_types.proofs.DifferentMembersCount.{all_from_0, none_counts, least_counts}
 use Rattle.ps_types.proofs.numbering.number_of.Goals as goal
 
 pub loop-other-init : goal.loop-other-init

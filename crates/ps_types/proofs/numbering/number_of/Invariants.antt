@@ -1,6 +1,6 @@
 use Rattle.std.proofs.Common.{◌≡◌, ◌+◌, ◌-◌, ◌≤◌}
 use Rattle.ps_types.specs.Writing.{variables, before, different, number}
-use Rattle.ps_types.proofs.Numbers.{from}
+use Rattle.ps_types.proofs.DifferentMembersCount.{from}
 use Rattle.ps_types.proofs.numbering.number_of.Given as goal
 
 -- what was counted and what is left from the floor on are all

@@ -4,7 +4,7 @@ use Rattle.ps_base.proofs.Writing.{adds_then}
 use Rattle.ps_types.proofs.types.Ty.TheLaws.{the_size}
 use Rattle.ps_types.specs.declared.types.Ty.{Ty}
 use Rattle.ps_types.specs.Writing.{variables, is_known, text_in}
-use Rattle.ps_types.proofs.Parts.{of_vector, of_proc, adds_part, known_at}
+use Rattle.ps_types.proofs.TextsComeByParts.{of_vector, of_proc, adds_part, known_at}
 use Rattle.ps_types.proofs.writing.+writing.Goals as goal
 
 pub put_type-returns-in-Vector : goal.put_type-returns-in-Vector

@@ -3,7 +3,7 @@ use Rattle.ps_base.specs.SinkStates.{SinkState}
 use Rattle.ps_base.specs.declared.sink.SinkFault.{SinkFault}
 use Rattle.ps_base.specs.Sinks.{Adds}
 use Rattle.ps_types.specs.Writing.{variables, spaced, text_in}
-use Rattle.ps_types.proofs.Parts.{spaced_from}
+use Rattle.ps_types.proofs.TextsComeByParts.{spaced_from}
 use Rattle.ps_types.proofs.writing.+writing.Given as goal
 
 -- what adds the rest has added all

@@ -1,5 +1,5 @@
 use Rattle.ps_base.proofs.Writing.{adds_nothing}
-use Rattle.ps_types.proofs.Parts.{space_at}
+use Rattle.ps_types.proofs.TextsComeByParts.{space_at}
 use Rattle.ps_types.proofs.writing.put_space.Goals as goal
 
 pub returns-then-place-eq0 : goal.returns-then-place-eq0
