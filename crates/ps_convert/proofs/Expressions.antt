@@ -1,4 +1,5 @@
 -- An expression of a program does in the run what its node does in the kernel's run.
+-- For: `kernels_do_the_same`
 use Rattle.std.proofs.Common.{◌≡◌, ℕ, ℤ, ◌+◌, List, [], ◌∷◌, ◌++◌, length, map, Option, Some, refl, sym, ap, ◌∙◌, subst}
 use Rattle.std.specs.Prelude.{Bool, true, false, ◌&&◌, if◌then◌else◌, slice_get}
 use Rattle.std.specs.Option.{option_map}
@@ -19,7 +20,7 @@ use Rattle.ps_kernel.specs.declared.expr.ExprKind.TheOpen.{ExprKind-F}
 use Rattle.ps_kernel.specs.declared.expr.ExprKind.TheVariants as kinds
 use Rattle.ps_kernel.specs.declared.expr.Operation.TheVariants.{Named}
 use Rattle.ps_kernel.specs.declared.kernel.Kernel.{Kernel}
-use Rattle.ps_kernel.proofs.Trees.{fold-expr, fold-constant, fold-local, fold-global, fold-if, fold-begin, fold-call, fold-primitive}
+use Rattle.ps_kernel.proofs.FoldsByNode.{fold-expr, fold-constant, fold-local, fold-global, fold-if, fold-begin, fold-call, fold-primitive}
 use Rattle.ps_meaning.specs.declared.values.RunValue.{RunValue}
 use Rattle.ps_meaning.specs.declared.values.RunValue.TheVariants.{Procedure}
 use Rattle.ps_meaning.specs.declared.values.Binding.{Binding}

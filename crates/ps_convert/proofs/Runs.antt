@@ -1,4 +1,5 @@
 -- The kernel of a program comes to nothing at compile time, and does in every run what the program does.
+-- For: `forms_do_nothing` and `kernels_do_the_same`
 use Rattle.std.proofs.Common.{◌≡◌, ℕ, ℤ, zero, suc, ◌-◌, ◌<◌, List, [], ◌∷◌, length, map, Option, Some, None, refl, sym, ap, ◌∙◌, subst, arith}
 use Rattle.std.specs.Prelude.{Bool, true, false, if◌then◌else◌, nat_eq, slice_get, replicate}
 use Rattle.std.specs.Option.{option_map}

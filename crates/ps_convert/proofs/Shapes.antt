@@ -1,4 +1,5 @@
 -- What stands where in the kernel of a program.
+-- For: `forms_do_nothing` and `kernels_do_the_same`
 use Rattle.std.proofs.Common.{◌≡◌, ℕ, ℤ, zero, suc, ◌+◌, ◌<◌, ◌≤◌, ◌≢◌, ◌⊎◌, inl, inr, List, [], ◌∷◌, ◌++◌, length, map, Option, Some, None, refl, sym, ap, ◌∙◌, arith}
 use Rattle.std.specs.Prelude.{Bool, true, false, if◌then◌else◌, nat_eq, ◌==◌, slice_get, replicate, filter}
 use Rattle.std.specs.Option.{option_map}
@@ -17,7 +18,7 @@ use Rattle.ps_kernel.specs.declared.kernel.Kernel.{Kernel}
 use Rattle.ps_kernel.specs.declared.kernel.Lambda.{Lambda}
 use Rattle.ps_kernel.specs.declared.kernel.Form.{Form}
 use Rattle.ps_kernel.specs.Texts.{expr_at, joined, groups_node, groups_in, expr_of as form_expr, all_groups, first_where, group_or_none, group_of, text_mentions}
-use Rattle.ps_kernel.proofs.Trees.{fold-expr, fold-constant, fold-local, fold-global, fold-lambda, fold-if, fold-begin, fold-call, fold-primitive}
+use Rattle.ps_kernel.proofs.FoldsByNode.{fold-expr, fold-constant, fold-local, fold-global, fold-lambda, fold-if, fold-begin, fold-call, fold-primitive}
 use Rattle.ps_meaning.specs.declared.values.RunValue.{RunValue}
 use Rattle.ps_meaning.specs.declared.values.RunValue.TheVariants.{Procedure}
 use Rattle.ps_meaning.specs.declared.values.Binding.{Binding, out-roll-Binding}

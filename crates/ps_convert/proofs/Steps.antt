@@ -1,5 +1,6 @@
 -- Parts of a run of a program of integers, and the same parts of the run of its kernel. The memory stays empty, the
 -- definitions keep their values, and cells are not counted.
+-- For: `kernels_do_the_same` and `forms_do_nothing`
 use Rattle.std.proofs.Common.{◌≡◌, ℕ, ℤ, zero, suc, List, [], ◌∷◌, map, Option, Some, None, Ok, Err, refl, ap, ◌∙◌, append-nil}
 use Rattle.std.specs.Prelude.{pos, negsuc, nat_lt, Bool, true, false, if◌then◌else◌, int_lt}
 use Rattle.byte_store.specs.Operations.{and_then}
@@ -24,7 +25,7 @@ use Rattle.ps_meaning.specs.declared.values.RunValue.{RunValue}
 use Rattle.ps_meaning.specs.declared.values.RunValue.TheVariants.{Plain}
 use Rattle.ps_meaning.specs.Values.{run_values, run_locals}
 use Rattle.ps_meaning.specs.Embedding.{run_performed}
-use Rattle.ps_meaning.proofs.Embedding.{primitives_run}
+use Rattle.ps_meaning.proofs.EachPrimitiveEmbeds.{primitives_run}
 use Rattle.ps_meaning.proofs.SortsEmbed.{seen_run}
 use Rattle.ps_meaning.specs.Run as kernel
 use Rattle.ps_meaning.specs.Run.{Run, Ends, Goes, Stops, came, scene_of}

@@ -1,4 +1,5 @@
 -- Data that are a program convert.
+-- For: `programs_convert`
 use Rattle.std.proofs.Common.{◌≡◌, inl, inr, ℕ, zero, suc, List, [], ◌∷◌, ◌++◌, length, Some, refl, sym, ap}
 use Rattle.std.specs.Prelude.{Bool, true, false, slice_get, codes}
 use Rattle.std.specs.Str.{bytes_eq}

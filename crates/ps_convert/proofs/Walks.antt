@@ -1,4 +1,5 @@
 -- Lists that are converted one member after another, and what is within of an expression.
+-- For: `convert`
 use Rattle.std.proofs.Common.{◌≡◌, ℕ, suc, ◌+◌, ◌-◌, ◌≤◌, ◌<◌, List, [], ◌∷◌, length, map, refl, sym, ap, ◌∙◌, arith}
 use Rattle.std.specs.Prelude.{Bool, true, false, ◌&&◌, nat_lt, slice_get}
 use Rattle.std.specs.List.{AllByRecursion}

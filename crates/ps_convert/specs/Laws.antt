@@ -19,8 +19,10 @@ run_of structure p = record {
 
 -- The forms of the kernel do nothing, whatever the budget and the cells are.
 abbrev pub FormsDoNothing : Type 0
-FormsDoNothing = (structure : Name) (p : PlainProgram) (budget cells : ℕ) → Top (kernel_of structure p) budget cells ≡ Finished (run_of structure p).globals (run_of structure p).memory
+FormsDoNothing = (structure : Name) (p : PlainProgram) (budget cells : ℕ) → Top (kernel_of structure p) budget cells ≡
+    Finished (run_of structure p).globals (run_of structure p).memory
 
 -- In every world, for each number of procedures that may be entered, the kernel's program has the outcome of the program.
 abbrev pub KernelsDoTheSame : Type 0
-KernelsDoTheSame = (structure : Name) (p : PlainProgram) (w : Surroundings) → IsValid p → IsSameEach (Source (run_of structure p) w) (PlainSource p w)
+KernelsDoTheSame = (structure : Name) (p : PlainProgram) (w : Surroundings) → IsValid p →
+    IsSameEach (Source (run_of structure p) w) (PlainSource p w)

@@ -1,4 +1,5 @@
 -- A procedure that is entered, and the end of a program.
+-- For: `enter`, `run` and `evaluate`
 use Rattle.std.proofs.Common.{◌≡◌, ℕ, suc, List, [], length, max, Some, None, sym, ap, ◌∙◌, subst}
 use Rattle.std.specs.Prelude.{slice_get, if◌then◌else◌}
 use Rattle.std.proofs.lemmas.Bool.{eq-eqb}
@@ -19,9 +20,10 @@ use Rattle.ps_evaluator.specs.declared.machine.Frame.{Frame}
 use Rattle.ps_evaluator.specs.declared.run.Ending.{Ending}
 use Rattle.ps_evaluator.specs.declared.run.Ending.TheVariants.{Gave, Halted, Unfinished}
 use Rattle.ps_evaluator.specs.declared.evaluating.Evaluated.{Evaluated}
-use Rattle.ps_evaluator.specs.Lists.{closed}
-use Rattle.ps_evaluator.specs.Machine.{state_of, halt_of, now, rest, Ends, EndsAs}
-use Rattle.ps_evaluator.specs.Evaluating.{Begins, ComesTo, IsSeen}
+use Rattle.ps_evaluator.specs.InsideLists.{closed}
+use Rattle.ps_evaluator.specs.InsideMachine.{state_of, halt_of, now, rest, Ends, EndsAs}
+use Rattle.ps_evaluator.specs.Evaluating.{ComesTo}
+use Rattle.ps_evaluator.specs.InsideEvaluating.{Begins, IsSeen}
 
 module _ (k : Kernel) (f : RunEnter) (d : ℕ) (at : Place) (vs : List RunValue) where
   -- behind what is found out of the operator

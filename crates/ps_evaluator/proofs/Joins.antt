@@ -1,4 +1,5 @@
 -- How parts of runs are joined, and one level of an expression.
+-- For: `turn`, `work`, `resume` and `act`
 use Rattle.std.proofs.Common.{◌≡◌, ℕ, ◌+◌, List, [], ◌∷◌, ◌++◌, map, refl, sym, ap, ◌∙◌, append_assoc, ◌≤◌, length, arith}
 use Rattle.std.specs.Prelude.{Result, Ok, Err, IfOk}
 use Rattle.std.specs.List.{IsFirstAndRest}
@@ -12,7 +13,7 @@ use Rattle.ps_kernel.specs.declared.expr.ExprKind.{ExprKind, fold-ExprKind}
 use Rattle.ps_kernel.specs.declared.expr.ExprKind.TheOpen.{ExprKind-F}
 use Rattle.ps_kernel.specs.declared.expr.ExprKind.TheVariants as kind
 use Rattle.ps_kernel.specs.declared.kernel.Kernel.{Kernel}
-use Rattle.ps_kernel.proofs.Trees as trees
+use Rattle.ps_kernel.proofs.FoldsByNode as trees
 use Rattle.ps_meaning.specs.declared.values.RunValue.{RunValue}
 use Rattle.ps_meaning.specs.declared.values.Binding.{Binding}
 use Rattle.ps_meaning.specs.Values.{bound}
@@ -22,7 +23,7 @@ use Rattle.ps_evaluator.specs.declared.machine.Job.{Job}
 use Rattle.ps_evaluator.specs.declared.machine.Job.TheVariants.{Enter, Perform}
 use Rattle.ps_evaluator.specs.declared.machine.Frame.{Frame}
 use Rattle.ps_evaluator.specs.declared.machine.Frame.TheVariants.{Branch, Body, Rest, Assigned, Operator, Operands}
-use Rattle.ps_evaluator.specs.Machine.{values_of, last_of, chosen, does, resume, plug, assign}
+use Rattle.ps_evaluator.specs.InsideMachine.{values_of, last_of, chosen, does, resume, plug, assign}
 
 -- ---- parts, one after another
 

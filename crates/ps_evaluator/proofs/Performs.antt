@@ -1,4 +1,5 @@
 -- What comes of a primitive on plain values, in the state of a run.
+-- For: `perform_row`
 use Rattle.std.proofs.Common.{◌≡◌, List, map, Bool, true, sym, ap, ◌∙◌}
 use Rattle.std.specs.Prelude.{if◌then◌else◌, IsTrue}
 use Rattle.byte_store.specs.Blocks.{Memory}
@@ -23,9 +24,9 @@ use Rattle.ps_meaning.specs.Values.{run_values, run_locals}
 use Rattle.ps_meaning.specs.Run.{State, Goes, Stops, Run, Ends, stop, came, scene_of}
 use Rattle.ps_meaning.specs.Eval.{belongs, misplaced, operation}
 use Rattle.ps_meaning.specs.Embedding.{run_performed}
-use Rattle.ps_meaning.proofs.Embedding.{primitives_run}
+use Rattle.ps_meaning.proofs.EachPrimitiveEmbeds.{primitives_run}
 use Rattle.ps_evaluator.specs.declared.machine.Machine.{Machine}
-use Rattle.ps_evaluator.specs.Machine.{state_of}
+use Rattle.ps_evaluator.specs.InsideMachine.{state_of}
 
 abbrev pub scene : Machine → Scene Value
 scene s = record { memory = s.store; world = s.world }

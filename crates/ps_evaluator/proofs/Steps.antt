@@ -1,4 +1,5 @@
 -- One more turn of a loop over a list.
+-- For: loops over lists in `literals`, `programs` and `texts`
 use Rattle.std.proofs.Common.{◌≡◌, ◌≢◌, ℕ, zero, suc, ◌+◌, ◌-◌, ◌<◌, ◌≤◌, ◌==◌, Bool, true, false, List, [], ◌∷◌, ◌++◌, length, map, take, drop, get_or, Option, Some, None, refl, sym, ap, ◌∙◌, append_assoc, append-nil, arith, length-append, length-drop}
 use Rattle.std.specs.Prelude.{slice_get, if◌then◌else◌}
 use Rattle.std.specs.List.{list_any}
@@ -15,7 +16,7 @@ use Rattle.ps_kernel.specs.Texts.{joined, locals_in, lambdas_in, locals_of_lambd
 use Rattle.ps_meaning.specs.Literals.{Laid, lay_parts}
 use Rattle.ps_meaning.specs.Eval.{defined_by, lambda_in, procedure_of}
 use Rattle.ps_meaning.specs.Source.{run_global, run_globals}
-use Rattle.ps_evaluator.specs.Lists.{first_with}
+use Rattle.ps_evaluator.specs.InsideLists.{first_with}
 
 joined-append : {A : Type 0} (xs ys : List (List A)) → joined (xs ++ ys) ≡ joined xs ++ joined ys
 joined-append [] ys = refl

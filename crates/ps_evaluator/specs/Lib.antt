@@ -1,3 +1,4 @@
-pub mod Lists
-pub mod Machine
+pub mod InsideLists
+pub mod InsideMachine
 pub mod Evaluating
+pub mod InsideEvaluating

@@ -1,6 +1,7 @@
 //! The turns of the machine that read or change its state.
 
 ghost use Rattle.std.specs.Prelude.{◌≡◌, ◌≤◌, ◌<◌, List, map, length, is_some, IfOk, IsTrue};
+ghost use Rattle.ps_base.specs.Limits.{most_numbered};
 ghost use Rattle.ps_kernel.specs.declared.kernel.Kernel.{Kernel as KernelSpec};
 ghost use Rattle.ps_kernel.specs.declared.expr.Operation.TheVariants.{Named};
 ghost use Rattle.ps_prims.specs.declared.stages.Stage.TheVariants.{Run as AtRun};
@@ -11,7 +12,7 @@ ghost use Rattle.ps_meaning.specs.Values.{run_locals, run_values};
 ghost use Rattle.ps_meaning.specs.Eval.{assigned, belongs, defined_in, operation, run_entering};
 ghost use Rattle.ps_evaluator.specs.declared.machine.Control.TheVariants.{Do};
 ghost use Rattle.ps_evaluator.specs.declared.machine.Frame.{Frame as FrameSpec};
-ghost use Rattle.ps_evaluator.specs.Machine.{Becomes, Gives, Same};
+ghost use Rattle.ps_evaluator.specs.InsideMachine.{Becomes, Gives, Same};
 
 use crate::closures::entered;
 use crate::machine::{Control, Halt, Job, Machine, RunGlobals, Trouble};
@@ -56,7 +57,7 @@ fn enter<'a>(
 
 // Whether there is a number for one more made block.
 fn has_room(store: &Store<Value>) -> bool
-    ensures { IsTrue result → length store.now.made < 4294967295 }
+    ensures { IsTrue result → length store.now.made < most_numbered }
 {
     let last = Pointer::At(Base::Made(4_294_967_294), 0);
     store.move_by(last, 0) == Err(Op::Bounds)

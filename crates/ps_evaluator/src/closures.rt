@@ -2,7 +2,7 @@
 
 ghost use Rattle.std.specs.Prelude.{◌≡◌, IfOk};
 ghost use Rattle.ps_meaning.specs.Eval.{bind_group, captured_of, closure, entered};
-ghost use Rattle.ps_evaluator.specs.Lists.{closed};
+ghost use Rattle.ps_evaluator.specs.InsideLists.{closed};
 
 use crate::texts::mentioned;
 use crate::values::{copied, kept_of, with_all_bound, with_bound};

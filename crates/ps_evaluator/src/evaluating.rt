@@ -4,8 +4,9 @@ ghost use Rattle.std.specs.Prelude.{◌≡◌, IfOk};
 ghost use Rattle.ps_kernel.specs.declared.kernel.Kernel.{Kernel as KernelSpec};
 ghost use Rattle.ps_meaning.specs.Eval.{defined_in};
 ghost use Rattle.ps_meaning.specs.Source.{Source, end_of as source_end};
-ghost use Rattle.ps_evaluator.specs.Evaluating.{Begins, ComesTo, IsSeen, end_of, result_of};
-ghost use Rattle.ps_evaluator.specs.Machine.{halt_of};
+ghost use Rattle.ps_evaluator.specs.Evaluating.{ComesTo, end_of};
+ghost use Rattle.ps_evaluator.specs.InsideEvaluating.{Begins, IsSeen, result_of};
+ghost use Rattle.ps_evaluator.specs.InsideMachine.{halt_of};
 
 use crate::machine::{Control, Halt, Job, Machine, Trouble};
 use crate::programs::{main_place, run_globals};

@@ -1,5 +1,6 @@
-//! A plain evaluator of programs, to show in tests that the definitions of what programs do mean what is meant. It is no
-//! part of the compiler.
+//! From a kernel, the values of its definitions and a world to what the kernel's program does there.
+//! By `evaluate`, which serves `Source` of `ps_meaning`, so that cases can show that it means what is meant. It is no part of
+//! the compiler.
 //!
 //! It is a machine with a stack of frames: procedures are values, and the values of locals are lists that are copied.
 #![tactic(auto)]
@@ -16,6 +17,3 @@ mod turns;
 mod values;
 
 pub use evaluating::{Ended, Evaluated, Finish, evaluate};
-
-#[cfg(test)]
-mod tests;

@@ -3,7 +3,7 @@
 ghost use Rattle.std.specs.Prelude.{◌≡◌, ◌≤◌, ℕ, IfOk};
 ghost use Rattle.ps_kernel.specs.declared.kernel.Kernel.{Kernel as KernelSpec};
 ghost use Rattle.ps_meaning.specs.Eval.{RunEnter};
-ghost use Rattle.ps_evaluator.specs.Machine.{Ends, EndsAs, Same, is_over};
+ghost use Rattle.ps_evaluator.specs.InsideMachine.{Ends, EndsAs, Same, is_over};
 
 use crate::acts::{act, assign, fetch};
 use crate::machine::{Control, Frame, Halt, Machine, Trouble};

@@ -6,7 +6,7 @@ ghost use Rattle.ps_kernel.specs.declared.expr.GroupEntry.{GroupEntry as EntrySp
 ghost use Rattle.ps_kernel.specs.declared.kernel.Form.{Form as FormSpec};
 ghost use Rattle.ps_kernel.specs.declared.kernel.Lambda.{Lambda as LambdaSpec};
 ghost use Rattle.ps_kernel.specs.Texts.{all_groups, expr_of, group_of, groups_in, joined, lambdas_in, lambdas_of, locals_in, locals_within};
-ghost use Rattle.ps_evaluator.specs.Lists.{first_with};
+ghost use Rattle.ps_evaluator.specs.InsideLists.{first_with};
 ghost use Rattle.ps_meaning.specs.Eval.{mentioned};
 
 use ps_base::{Items, NoMemory};

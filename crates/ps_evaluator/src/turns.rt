@@ -7,7 +7,7 @@ ghost use Rattle.ps_meaning.specs.declared.values.RunValue.TheVariants.{Plain};
 ghost use Rattle.ps_meaning.specs.Eval.{constant};
 ghost use Rattle.ps_evaluator.specs.declared.machine.Control.TheVariants.{Work};
 ghost use Rattle.ps_kernel.specs.declared.kernel.Kernel.{Kernel as KernelSpec};
-ghost use Rattle.ps_evaluator.specs.Machine.{Calls, Chooses, Continues, Follows, Gathers, Gives, Resumes};
+ghost use Rattle.ps_evaluator.specs.InsideMachine.{Calls, Chooses, Continues, Follows, Gathers, Gives, Resumes};
 
 use crate::closures::{closure_of, with_group_bound};
 use crate::literals::constant_of;

@@ -3,7 +3,7 @@
 ghost use Rattle.std.specs.Prelude.{◌≡◌, ◌∷◌, map, IfOk};
 ghost use Rattle.ps_meaning.specs.declared.values.RunValue.TheVariants.{Plain};
 ghost use Rattle.ps_meaning.specs.Values.{bind_all, bound, find_in, only, run_locals};
-ghost use Rattle.ps_evaluator.specs.Lists.{IfSome};
+ghost use Rattle.ps_evaluator.specs.InsideLists.{IfSome};
 
 use byte_store::Value;
 use ps_base::{Items, NoMemory};

@@ -8,13 +8,14 @@ use Rattle.std.specs.Prelude.{◌≡◌, ◌↔◌, ℕ, ◌<◌, Bool, true, fa
 use Rattle.ps_kernel.specs.declared.expr.GroupEntry.{GroupEntry}
 use Rattle.ps_kernel.specs.declared.kernel.Kernel.{Kernel}
 use Rattle.ps_kernel.specs.declared.kernel.Lambda.{Lambda}
+use Rattle.ps_kernel.specs.Most.{most_depth}
 use Rattle.ps_kernel.specs.Marks.{Mark, Mentions, marks, lambda_marks}
 use Rattle.ps_kernel.specs.Rules.{stands_in, bound}
 use Rattle.ps_kernel.specs.Texts.{locals_of, group_of}
 
 -- the marks of a lambda
 unfoldable pub lambda_text : Kernel → ℕ → List Mark
-lambda_text k l = lambda_marks k (marks k 1000) [] l
+lambda_text k l = lambda_marks k (marks k most_depth) [] l
 
 abbrev pub mentioned : List Mark → List ℕ
 mentioned [] = []

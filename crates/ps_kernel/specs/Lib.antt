@@ -1,10 +1,11 @@
+pub mod Most
 pub mod Texts
 pub mod Marks
 pub mod Once
 pub mod Rules
 pub mod Valid
-pub mod Steps
+pub mod InsideSteps
 pub mod Sizes
 pub mod Captured
-pub mod Walking
+pub mod InsideWalks
 pub mod Worked

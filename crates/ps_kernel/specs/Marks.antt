@@ -81,7 +81,8 @@ module _ (k : Kernel) where
   layer inner tail scope (ExprKind-F.Lambda l) = lambda_marks inner scope l
   layer inner tail scope (ExprKind-F.If a b c) = inner false scope a ++ (inner tail scope b ++ inner tail scope c)
   layer inner tail scope (ExprKind-F.Let x a b) = inner false scope a ++ (Binds x ∷ inner tail (x ∷ scope) b)
-  layer inner tail scope (ExprKind-F.Letrec g b) = map Binds (locals_of g) ++ (group_marks inner (locals_of g ++ scope) g ++ inner tail (locals_of g ++ scope) b)
+  layer inner tail scope (ExprKind-F.Letrec g b) =
+      map Binds (locals_of g) ++ (group_marks inner (locals_of g ++ scope) g ++ inner tail (locals_of g ++ scope) b)
   layer inner tail scope (ExprKind-F.Begin es) = Sequence (length es) ∷ sequence_marks inner tail scope es
   layer inner tail scope (ExprKind-F.SetGlobal g a) = Names g ∷ inner false scope a
   layer inner tail scope (ExprKind-F.Call f es) = inner false scope f ++ part_marks inner scope es

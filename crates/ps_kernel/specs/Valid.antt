@@ -12,6 +12,7 @@ use Rattle.ps_types.specs.declared.types.RecordKind.{RecordKind}
 use Rattle.ps_kernel.specs.declared.kernel.Form.{Form}
 use Rattle.ps_kernel.specs.declared.kernel.Form.TheVariants.{Define, Do}
 use Rattle.ps_kernel.specs.declared.kernel.Kernel.{Kernel}
+use Rattle.ps_kernel.specs.Most.{most_depth, most_nodes}
 use Rattle.ps_kernel.specs.Once.{AtMostOnce, EachOnce}
 use Rattle.ps_kernel.specs.Texts.{expr_of}
 use Rattle.ps_kernel.specs.Marks.{Mark, marks}
@@ -38,7 +39,7 @@ abbrev pub form_marks : Kernel → ℕ → List Form → List Mark
 form_marks k n fs = flat_map (λ f. marks k n false [] (expr_of f)) fs
 
 unfoldable pub text : Kernel → List Mark
-text k = form_marks k 1000 k.forms
+text k = form_marks k most_depth k.forms
 
 -- ---- literals (R5RS 4.1.2)
 
@@ -87,7 +88,7 @@ pub record IsLiteral (d : Datum) : Type 0 where
   -- it is a string or a vector
   pub kind : is_literal_kind (out-DatumKind (out-Datum d).kind) ≡ true
   pub stored : is_stored d ≡ true
-  pub depth : datum_depth d ≤ 1000
+  pub depth : datum_depth d ≤ most_depth
 
 -- ---- kinds of records
 
@@ -131,7 +132,7 @@ pub record IsRightText (k : Kernel) (ms : List Mark) : Type 0 where
   pub bound_once : AtMostOnce (bound ms)
   -- each local that is mentioned is in scope there (R5RS 3.1)
   pub in_scope : list_all is_in_scope ms ≡ true
-  pub size : nodes ms ≤ 1000000
+  pub size : nodes ms ≤ most_nodes
   pub depth : list_all has_level ms ≡ true
 
 pub record IsValid (k : Kernel) : Type 0 where

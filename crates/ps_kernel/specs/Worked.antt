@@ -56,7 +56,14 @@ lambdas =
     ∷ []
 
 abbrev pub example : Kernel
-example = record { definitions = record { structure = record { 0 = 0 }; name = record { 0 = 1 }; place = here } ∷ []; lambdas = lambdas; literals = []; kinds = []; forms = Define 0 (node (Stands 0)) ∷ []; main = 0 }
+example = record {
+  definitions = record { structure = record { 0 = 0 }; name = record { 0 = 1 }; place = here } ∷ [];
+  lambdas = lambdas;
+  literals = [];
+  kinds = [];
+  forms = Define 0 (node (Stands 0)) ∷ [];
+  main = 0;
+}
 
 -- What the procedures of its lambdas keep. f reaches g, in whose text k is mentioned. The innermost lambda is of no group, and
 -- keeps f itself.

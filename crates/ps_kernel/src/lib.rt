@@ -1,4 +1,6 @@
-//! The kernel: the tree that the whole compiler works on, once macros, modules and derived forms are gone.
+//! The kernel, from which each pass goes on once macros, modules and derived forms are gone, and what of it survives.
+//! From a kernel to whether it keeps the rules: `valid`, by `specs/Valid.antt`, `Rules.antt` and `Marks.antt`.
+//! What lambdas keep is `specs/Captured.antt`, of which `example_keeps` works out an example.
 #![tactic(auto)]
 
 mod expr;
@@ -17,6 +19,3 @@ pub use survivors::{
     ProcedureTypes, Survivors, Typed,
 };
 pub use validity::valid;
-
-#[cfg(test)]
-mod tests;

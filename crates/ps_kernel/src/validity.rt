@@ -16,6 +16,9 @@ use crate::kernel::Kernel;
 use ps_base::NoMemory;
 use std::alloc::Global;
 
+// The deepest that an expression may stand, and that a literal may be.
+const DEPTH: u32 = 1_000;
+
 /// Whether a kernel keeps the rules that every pass relies on: each number names what is there, each local is bound at one
 /// place and mentioned where it is bound, each lambda stands at one place that is reached from the forms, each proper call
 /// stands in tail position (R5RS 3.5), each definition has one form, each primitive its number of operands and each sequence

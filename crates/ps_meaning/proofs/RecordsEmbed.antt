@@ -1,4 +1,5 @@
 -- The operations of records do on values of first order at run time what they do on them as such.
+-- For: `record_operations_embed`
 use Rattle.std.proofs.Common.{◌≡◌, ℕ, pos, List, [], ◌∷◌, map, length, replicate, not, Bool, true, false, is_some, Option, Some, None, Result, Ok, refl, sym, ap, ◌∙◌}
 use Rattle.std.specs.Prelude.{if◌then◌else◌, slice_get}
 use Rattle.std.specs.Option.{option_map}

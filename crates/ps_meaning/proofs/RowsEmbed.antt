@@ -1,4 +1,5 @@
 -- The shapes of rows do on values of first order at run time what they do on them as such.
+-- For: `primitives_embed` and `record_operations_embed`
 use Rattle.std.proofs.Common.{◌≡◌, ℕ, ℤ, pos, negsuc, List, [], ◌∷◌, ◌++◌, map, replicate, Bool, true, false, Some, Result, Ok, Err, refl, sym, ap, ◌∙◌}
 use Rattle.std.specs.Prelude.{if◌then◌else◌, bytes_eq}
 use Rattle.ps_base.specs.declared.faults.Op.{Op}

@@ -1,4 +1,5 @@
 -- Operands and answers of first order at run time, and rows that do the same on them.
+-- For: `primitives_embed` and `record_operations_embed`
 use Rattle.std.proofs.Common.{◌≡◌, List, [], ◌∷◌, map, Option, Some, None, Result, Ok, Err, refl, ap, ◌∙◌}
 use Rattle.std.specs.Option.{option_map}
 use Rattle.ps_base.specs.declared.faults.Op.{Op}

@@ -1,4 +1,5 @@
 -- The operations of a store do on values of first order at run time what they do on them as such.
+-- For: `primitives_embed` and `record_operations_embed`
 use Rattle.std.proofs.Common.{◌≡◌, ℕ, ℤ, pos, negsuc, zero, suc, ◌+◌, List, [], ◌∷◌, ◌++◌, map, length, take, drop, replicate, Bool, true, false, Option, Some, None, Result, Ok, Err, refl, sym, ap, ◌∙◌}
 use Rattle.std.specs.Prelude.{nat_eq, nat_le, nat_lt, int_lt, ◌||◌, if◌then◌else◌}
 use Rattle.std.specs.Ordering.{int_eq}

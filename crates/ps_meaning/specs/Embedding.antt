@@ -32,26 +32,34 @@ run_performed Wrong = Wrong
 -- a primitive does on plain values what it does on the values of first order
 abbrev pub PrimitivesEmbed : Type 0
 PrimitivesEmbed =
-    (p : PrimName) (vs : List Value) (stage : Stage) (s : Scene Value) → perform run_values p (map Plain vs) stage (run_scene s) ≡ run_performed (perform first_order p vs stage s)
+    (p : PrimName) (vs : List Value) (stage : Stage) (s : Scene Value) → perform run_values p (map Plain vs) stage (run_scene s) ≡
+    run_performed (perform first_order p vs stage s)
 
 -- ---- records
 
 -- the maker of a kind
 abbrev pub MakersEmbed : Type 0
 MakersEmbed =
-    (kinds : List RecordKind) (vs : List Value) (stage : Stage) (s : Scene Value) (k : ℕ) → perform_maker run_values kinds (map Plain vs) stage (run_scene s) k ≡ run_performed (perform_maker first_order kinds vs stage s k)
+    (kinds : List RecordKind) (vs : List Value) (stage : Stage) (s : Scene Value) (k : ℕ) →
+    perform_maker run_values kinds (map Plain vs) stage (run_scene s) k ≡ run_performed (perform_maker first_order kinds vs stage s k)
 
 -- its predicate
 abbrev pub PredicatesEmbed : Type 0
 PredicatesEmbed =
-    (kinds : List RecordKind) (vs : List Value) (stage : Stage) (s : Scene Value) (k : ℕ) → perform_predicate run_values kinds (map Plain vs) stage (run_scene s) k ≡ run_performed (perform_predicate first_order kinds vs stage s k)
+    (kinds : List RecordKind) (vs : List Value) (stage : Stage) (s : Scene Value) (k : ℕ) →
+    perform_predicate run_values kinds (map Plain vs) stage (run_scene s) k ≡
+    run_performed (perform_predicate first_order kinds vs stage s k)
 
 -- the accessor of a field
 abbrev pub AccessorsEmbed : Type 0
 AccessorsEmbed =
-    (kinds : List RecordKind) (vs : List Value) (stage : Stage) (s : Scene Value) (k f : ℕ) → perform_accessor run_values kinds (map Plain vs) stage (run_scene s) k f ≡ run_performed (perform_accessor first_order kinds vs stage s k f)
+    (kinds : List RecordKind) (vs : List Value) (stage : Stage) (s : Scene Value) (k f : ℕ) →
+    perform_accessor run_values kinds (map Plain vs) stage (run_scene s) k f ≡
+    run_performed (perform_accessor first_order kinds vs stage s k f)
 
 -- its modifier
 abbrev pub ModifiersEmbed : Type 0
 ModifiersEmbed =
-    (kinds : List RecordKind) (vs : List Value) (stage : Stage) (s : Scene Value) (k f : ℕ) → perform_modifier run_values kinds (map Plain vs) stage (run_scene s) k f ≡ run_performed (perform_modifier first_order kinds vs stage s k f)
+    (kinds : List RecordKind) (vs : List Value) (stage : Stage) (s : Scene Value) (k f : ℕ) →
+    perform_modifier run_values kinds (map Plain vs) stage (run_scene s) k f ≡
+    run_performed (perform_modifier first_order kinds vs stage s k f)

@@ -4,7 +4,8 @@
 -- Read `run_node` and `compile_node` as two tables with a row for each form: a row says what a form does at a place, at a
 -- depth, where locals have these values, when it is known what its parts do. A call does what `enter` does, which
 -- `entering` says for each stage: it enters the body of a procedure, which is one deeper for a call that nests.
-use Rattle.std.specs.Prelude.{ℕ, zero, suc, ◌+◌, Bool, true, false, List, [], ◌∷◌, length, map, nat_eq, Option, Some, None, is_some, if◌then◌else◌, slice_get, slice_set, filter}
+use Rattle.std.specs.Prelude.{ℕ, zero, suc, ◌+◌, Bool, true, false, List, [], ◌∷◌, length, map, nat_eq, Option, Some, None, is_some}
+use Rattle.std.specs.Prelude.{if◌then◌else◌, slice_get, slice_set, filter}
 use Rattle.std.specs.Option.{option_map}
 use Rattle.std.specs.List.{list_any}
 use Rattle.ps_base.specs.declared.faults.Place.{Place}
@@ -30,10 +31,12 @@ use Rattle.ps_kernel.specs.declared.kernel.Lambda.{Lambda}
 use Rattle.ps_kernel.specs.declared.kernel.Form.{Form}
 use Rattle.ps_kernel.specs.declared.kernel.Form.TheVariants.{Define, Do}
 use Rattle.ps_kernel.specs.Texts.{entry_of, group_of, text_mentions}
-use Rattle.ps_meaning.specs.Values.{RunValue, Plain, Procedure, Binding, run_values, Closure, as_procedure, Locals, bound, run_locals, compile_locals, bind_all, only}
+use Rattle.ps_meaning.specs.Values.{RunValue, Plain, Procedure, Binding, run_values, Closure, as_procedure, Locals, bound, run_locals}
+use Rattle.ps_meaning.specs.Values.{compile_locals, bind_all, only}
 use Rattle.ps_meaning.specs.Literals.{lay_all}
 use Rattle.ps_meaning.specs.Records.{perform_maker, perform_predicate, perform_accessor, perform_modifier}
-use Rattle.ps_meaning.specs.Run.{Run, Halt, Ends, RunOnly, ◌>>=◌, ◌>>◌, pure, stop, known, take_call, at_depth, get_globals, put_globals, scene_of, came}
+use Rattle.ps_meaning.specs.Run.{Run, Halt, Ends, RunOnly, ◌>>=◌, ◌>>◌, pure, stop, known, take_call, at_depth, get_globals, put_globals}
+use Rattle.ps_meaning.specs.Run.{scene_of, came}
 
 -- ---- what a kernel says of its numbers
 
@@ -161,7 +164,9 @@ module _ {V E : Type 0} (k : Kernel) (stage : Stage) (values : Values V) (locals
 
   abbrev pub operation : Place → Operation → List V → Run V V
   operation at (Named p) vs =
-      if belongs (row first_order p).stages stage then (λ s. came at (perform values p vs stage (scene_of s)) s) else stop (misplaced stage at)
+      if belongs (row first_order p).stages stage
+      then (λ s. came at (perform values p vs stage (scene_of s)) s)
+      else stop (misplaced stage at)
   operation at (Maker c) vs = λ s. came at (perform_maker values k.kinds vs stage (scene_of s) c) s
   operation at (Predicate c) vs = λ s. came at (perform_predicate values k.kinds vs stage (scene_of s) c) s
   operation at (Accessor c f) vs = λ s. came at (perform_accessor values k.kinds vs stage (scene_of s) c f) s
@@ -278,17 +283,21 @@ module _ (k : Kernel) where
 
     abbrev pub compile_node : ExprKind-F (Place → Part) Part → Place → Part
     compile_node (ExprKind-F.Constant c) at = meant None (λ d env. known at (constant k c))
-    compile_node (ExprKind-F.Local x) at = meant (letrec_lambda x) (unless (is_some (letrec_lambda x)) at (local k Compile first_order compile_locals at x))
-    compile_node (ExprKind-F.Global g) at = meant (procedure_of k g) (unless (is_some (procedure_of k g)) at (global k Compile first_order compile_locals at g))
+    compile_node (ExprKind-F.Local x) at =
+        meant (letrec_lambda x) (unless (is_some (letrec_lambda x)) at (local k Compile first_order compile_locals at x))
+    compile_node (ExprKind-F.Global g) at =
+        meant (procedure_of k g) (unless (is_some (procedure_of k g)) at (global k Compile first_order compile_locals at g))
     compile_node (ExprKind-F.Lambda l) at = meant None (run_only at)
     compile_node (ExprKind-F.If a b c) at = meant None (branch k Compile first_order compile_locals at a.does b.does c.does)
     compile_node (ExprKind-F.Let x a b) at = meant None (let_in k Compile first_order compile_locals x a.does b.does)
     compile_node (ExprKind-F.Letrec g b) at = meant None (unless (list_any keeps_locals g) at b.does)
     compile_node (ExprKind-F.Begin ps) at = meant None (in_order k Compile first_order compile_locals at (map (λ (p : Part). p.does) ps))
-    compile_node (ExprKind-F.SetGlobal g a) at = meant None (unless (is_some (procedure_of k g)) at (set_global k Compile first_order compile_locals g a.does))
+    compile_node (ExprKind-F.SetGlobal g a) at =
+        meant None (unless (is_some (procedure_of k g)) at (set_global k Compile first_order compile_locals g a.does))
     compile_node (ExprKind-F.Call f ps) at = meant None (call_of f.names 1 at ps)
     compile_node (ExprKind-F.ProperCall f ps) at = meant None (call_of f.names 0 at ps)
-    compile_node (ExprKind-F.Primitive p ps) at = meant None (primitive k Compile first_order compile_locals at p (map (λ (p : Part). p.does) ps))
+    compile_node (ExprKind-F.Primitive p ps) at =
+        meant None (primitive k Compile first_order compile_locals at p (map (λ (p : Part). p.does) ps))
 
     abbrev pub part_of : Expr → Part
     part_of = fold-Expr (Place → Part) Part compile_node (λ e. e.kind e.place)

@@ -27,12 +27,14 @@ LargerBoundKeepsTraced = (p : Program) (w : Surroundings) (cells : ℕ) → Keep
 -- is never met before the calls that are left.
 abbrev pub CallsEnterProcedures : Type 0
 CallsEnterProcedures =
-    (k : Kernel) (n d : ℕ) (at : Place) (v : RunValue) (vs : List RunValue) (s : State RunValue) → s.calls ≤ n → run_enters k n d at v vs s ≡ run_entering k (run_enters k n) d at v vs s
+    (k : Kernel) (n d : ℕ) (at : Place) (v : RunValue) (vs : List RunValue) (s : State RunValue) → s.calls ≤ n →
+    run_enters k n d at v vs s ≡ run_entering k (run_enters k n) d at v vs s
 
 -- the same at compile time
 abbrev pub CompileCallsEnter : Type 0
 CompileCallsEnter =
-    (k : Kernel) (n d : ℕ) (at : Place) (l : ℕ) (vs : List Value) (s : State Value) → s.calls ≤ n → compile_enters k n d at l vs s ≡ compile_entering k (compile_enters k n) d at l vs s
+    (k : Kernel) (n d : ℕ) (at : Place) (l : ℕ) (vs : List Value) (s : State Value) → s.calls ≤ n → compile_enters k n d at l vs s ≡
+    compile_entering k (compile_enters k n) d at l vs s
 
 -- ---- cells
 

@@ -1,9 +1,10 @@
 -- Makers, predicates, accessors and modifiers of records (this project's own).
 --
--- A record is a pointer to a block with a cell for each field, in the order of the fields, or null. Read `perform_maker` and those that follow it
--- as rows of a table: the maker of a kind takes a value for each field, in an order of its own; the others take a record of
--- their kind first. A value of another kind than the row's is Wrong.
-use Rattle.std.specs.Prelude.{ℕ, pos, List, [], ◌∷◌, length, replicate, nat_eq, Bool, true, false, not, Option, Some, None, Result, Ok, is_some, if◌then◌else◌, slice_get}
+-- A record is a pointer to a block with a cell for each field, in the order of the fields, or null. Read `perform_maker` and
+-- those that follow it as rows of a table: the maker of a kind takes a value for each field, in an order of its own; the others
+-- take a record of their kind first. A value of another kind than the row's is Wrong.
+use Rattle.std.specs.Prelude.{ℕ, pos, List, [], ◌∷◌, length, replicate, nat_eq, Bool, true, false, not, Option, Some, None, Result, Ok}
+use Rattle.std.specs.Prelude.{is_some, if◌then◌else◌, slice_get}
 use Rattle.std.specs.Option.{option_map}
 use Rattle.ps_base.specs.declared.faults.Op.{Op}
 use Rattle.byte_store.specs.declared.event.Event.{Event}
@@ -78,14 +79,22 @@ module _ {V : Type 0} (values : Values V) where
   abbrev pub filled : ℕ → List ℕ → List V → Memory V → Surroundings → Pointer → Result (Done V Pointer) Op
   filled n fs vs m w Null = Ok (record { answer = Null; memory = m; world = w; events = events.Tuple (pos n) Null ∷ [] })
   filled n fs vs m w (At base offset) =
-      and_then (put_fields m (At base offset) fs vs) (λ m'. Ok (record { answer = At base offset; memory = m'; world = w; events = events.Tuple (pos n) (At base offset) ∷ puts_seen (At base offset) fs vs }))
+      and_then (put_fields m (At base offset) fs vs) (λ m'. Ok (record {
+        answer = At base offset;
+        memory = m';
+        world = w;
+        events = events.Tuple (pos n) (At base offset) ∷ puts_seen (At base offset) fs vs;
+      }))
 
   -- A record is made. At compile time it is the next fixed block, and at run time one that uses a grant.
   abbrev pub made : RecordKind → List V → Stage → Scene V → Result (Done V Pointer) Op
   made kind vs Compile s =
-      filled (length kind.fields) kind.maker vs (store.fixed s.memory (next_number s.memory.fixed) (Cells (replicate (length kind.fields) None))) s.world (At (Fixed (next_number s.memory.fixed)) (pos 0))
+      filled (length kind.fields) kind.maker vs
+      (store.fixed s.memory (next_number s.memory.fixed) (Cells (replicate (length kind.fields) None))) s.world
+      (At (Fixed (next_number s.memory.fixed)) (pos 0))
   made kind vs Run s =
-      and_then (store.allocate_cells s.memory s.world (pos (length kind.fields)) None) (λ a. filled (length kind.fields) kind.maker vs a.memory a.world a.pointer)
+      and_then (store.allocate_cells s.memory s.world (pos (length kind.fields)) None)
+      (λ a. filled (length kind.fields) kind.maker vs a.memory a.world a.pointer)
 
   -- ---- the rows: what each does, where the operands are its own
 
@@ -104,13 +113,16 @@ module _ {V : Type 0} (values : Values V) where
 
   -- (accessor r)
   abbrev pub access : ℕ → ℕ → List V → Option (Act V V)
-  access k f (r ∷ []) = option_map (λ p. finds (λ m. store.get m p (pos f)) (λ x. events.Get (plus p (pos f)) (values.word x) ∷ [])) (record_in k r)
+  access k f (r ∷ []) =
+      option_map (λ p. finds (λ m. store.get m p (pos f)) (λ x. events.Get (plus p (pos f)) (values.word x) ∷ [])) (record_in k r)
   access k f _ = None
 
   -- (modifier r v)
   abbrev pub modify : ℕ → Option Ty → ℕ → List V → Option (Act V (Unit {0}))
   modify k field f (r ∷ v ∷ []) =
-      if fits_field field v then option_map (λ p. changes (λ m. store.put m p (pos f) v) (events.Put (plus p (pos f)) (values.word v))) (record_in k r) else None
+      if fits_field field v
+      then option_map (λ p. changes (λ m. store.put m p (pos f) v) (events.Put (plus p (pos f)) (values.word v))) (record_in k r)
+      else None
   modify k field f _ = None
 
   -- the type of a field, where the kind has it

@@ -24,7 +24,8 @@ use Rattle.ps_meaning.specs.Eval.{CompileEnter, procedure_of, letrec_lambda, kee
 
 -- whatever calls do, at each depth and in each state
 abbrev pub IsRunOnlyAt : Kernel → Place → ExprKind → Type 0
-IsRunOnlyAt k p kind = (enter : CompileEnter) (d : ℕ) (env : List (ℕ × Value)) (s : State Value) → compile k enter (expr_at p kind) d env s ≡ Stops (RunOnly p) s
+IsRunOnlyAt k p kind = (enter : CompileEnter) (d : ℕ) (env : List (ℕ × Value)) (s : State Value) →
+    compile k enter (expr_at p kind) d env s ≡ Stops (RunOnly p) s
 
 -- an operator that is no mention of a procedure
 abbrev pub NamesNone : Kernel → Expr → Type 0
@@ -44,4 +45,5 @@ pub record RunOnlyAtItsPlace : Type 0 where
   pub call : (k : Kernel) (p : Place) (f : Expr) (es : List Expr) → NamesNone k f → IsRunOnlyAt k p (Call f es)
   pub proper_call : (k : Kernel) (p : Place) (f : Expr) (es : List Expr) → NamesNone k f → IsRunOnlyAt k p (ProperCall f es)
   -- a primitive for run time alone, once it has its operands, whatever they are
-  pub primitive : (k : Kernel) (p : Place) (q : PrimName) (vs : List Value) (s : State Value) → (row first_order q).stages ≡ AtRunOnly → operation k Compile first_order compile_locals p (Named q) vs s ≡ Stops (RunOnly p) s
+  pub primitive : (k : Kernel) (p : Place) (q : PrimName) (vs : List Value) (s : State Value) → (row first_order q).stages ≡ AtRunOnly →
+      operation k Compile first_order compile_locals p (Named q) vs s ≡ Stops (RunOnly p) s

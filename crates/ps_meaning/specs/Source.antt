@@ -1,6 +1,7 @@
 -- What the top-level forms of a kernel come to, and what its program does in a world (R5RS 5.1 and 5.2 in outline; the
 -- bounds are this project's own).
-use Rattle.std.specs.Prelude.{ℕ, ℤ, suc, nat_le, ◌-◌, List, [], ◌∷◌, length, map, replicate, Option, Some, None, if◌then◌else◌, slice_get, slice_set}
+use Rattle.std.specs.Prelude.{ℕ, ℤ, suc, nat_le, ◌-◌, List, [], ◌∷◌, length, map, replicate, Option, Some, None, if◌then◌else◌, slice_get}
+use Rattle.std.specs.Prelude.{slice_set}
 use Rattle.std.specs.Option.{option_map}
 use Rattle.ps_base.specs.declared.faults.Place.{Place}
 use Rattle.byte_store.specs.declared.pointer.Value.{Value}
@@ -16,7 +17,8 @@ use Rattle.ps_kernel.specs.declared.kernel.Form.TheVariants.{Define, Do}
 use Rattle.ps_prims.specs.Sorts.{and_seen, as_integer}
 use Rattle.ps_meaning.specs.Values.{RunValue, Plain, Procedure, run_values}
 use Rattle.ps_meaning.specs.Literals.{lay_all, numbered}
-use Rattle.ps_meaning.specs.Run.{State, Step, Goes, Stops, Run, Halt, Ends, RunOnly, ◌>>=◌, ◌>>◌, pure, known, get_globals, put_globals, cells_in}
+use Rattle.ps_meaning.specs.Run.{State, Step, Goes, Stops, Run, Halt, Ends, RunOnly, ◌>>=◌, ◌>>◌, pure, known, get_globals, put_globals}
+use Rattle.ps_meaning.specs.Run.{cells_in}
 use Rattle.ps_meaning.specs.Eval.{lambda_in, procedure_of, defined_in, CompileEnter, compile, compile_enters, run_enters}
 
 -- ---- compile time
@@ -130,7 +132,8 @@ main_place k = procedure_place k (procedure_of k k.main) (definition_place (slic
 
 -- `main` is called without operands at depth 0, where n procedures may be entered
 abbrev pub call_main : Kernel → ℕ → Run RunValue RunValue
-call_main k n = get_globals >>= (λ globals. known (main_place k) (defined_in k.main globals) >>= (λ v. run_enters k n 0 (main_place k) v []))
+call_main k n = get_globals >>=
+    (λ globals. known (main_place k) (defined_in k.main globals) >>= (λ v. run_enters k n 0 (main_place k) v []))
 
 -- an integer is the result of the program; any other value of `main` is Wrong
 abbrev pub result : Place → Option ℤ → End
@@ -142,7 +145,8 @@ end_of (Ends e) = e
 end_of (RunOnly at) = Wrong at
 
 abbrev pub outcome : Place → Step RunValue RunValue → Outcome
-outcome at (Goes v s) = record { events = s.events; depth = s.deepest; end = result at (and_seen run_values (run_values.seen v) as_integer) }
+outcome at (Goes v s) =
+    record { events = s.events; depth = s.deepest; end = result at (and_seen run_values (run_values.seen v) as_integer) }
 outcome at (Stops h s) = record { events = s.events; depth = s.deepest; end = end_of h }
 
 -- The run of a program in a world, for each number of procedures that may be entered, `main` included.

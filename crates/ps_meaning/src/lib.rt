@@ -1,7 +1,6 @@
-//! What a source means: what its forms do at compile time, and what its program does at run time.
-//!
-//! Nothing here is run by the compiler. The crate holds the definitions that the compiler's contract speaks of, and functions
-//! whose contracts are laws of these definitions.
+//! What a kernel means, as definitions and laws of them. No call computes.
+//! From a kernel to what its forms come to at compile time, a program: `Top` in `specs/Source.antt`.
+//! From a program to what it does in a world at run time: `Source` and `Traced`, there too. `specs/Eval.antt` is under all.
 #![tactic(auto)]
 
 mod laws;

@@ -1,4 +1,5 @@
 -- The laws of the source's runs.
+-- For: `larger_bound_keeps`, `calls_enter_procedures` and `program_is_sound`
 use Rattle.std.proofs.Common.{◌≡◌, ℕ, ℤ, zero, suc, ◌+◌, [], refl, sym, ap, subst, arith}
 use Rattle.byte_store.specs.Outcome.{Outcome, Returned, Running, Undefined, Stuck, Wrong, StoppedAtCells, Begins, IsSound}
 use Rattle.byte_store.specs.Laws.{Grows}

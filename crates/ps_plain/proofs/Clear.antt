@@ -1,4 +1,5 @@
 -- Where options hold something, and where there is no fault, as tests; and conjunctions in another order.
+-- For: `faults_tell_programs`
 use Rattle.std.proofs.Common.{◌≡◌, List, Option, Some, None, refl, ap, ◌∙◌}
 use Rattle.std.specs.Prelude.{Bool, true, false, not, ◌&&◌, if◌then◌else◌, is_some}
 use Rattle.ps_base.specs.declared.faults.Place.{Place}

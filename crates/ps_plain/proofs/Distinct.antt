@@ -1,4 +1,5 @@
 -- Distinct names, taken one by one and in another order; and the tests that a head passes.
+-- For: `faults_tell_programs`
 use Rattle.std.proofs.Common.{◌≡◌, ℕ, zero, suc, ◌+◌, ◌≤◌, List, [], ◌∷◌, ◌++◌, length, Option, Some, None, refl, sym, ap, ◌∙◌, subst, arith, append_assoc, append-nil}
 use Rattle.std.specs.Prelude.{Bool, true, false, not, ◌&&◌, if◌then◌else◌, nat_lt, is_some}
 use Rattle.std.specs.Option.{option_map}

@@ -1,4 +1,5 @@
 -- Data have no fault exactly where they are a program.
+-- For: `faults_tell_programs`
 use Rattle.std.proofs.Common.{◌≡◌, ℕ, List, [], ◌∷◌, ◌++◌, Option, Some, None, refl, sym, ap, ◌∙◌, subst}
 use Rattle.std.specs.Prelude.{Bool, true, false, ◌&&◌, ◌||◌, if◌then◌else◌, codes, is_some}
 use Rattle.std.specs.List.{AllByRecursion, list_any}

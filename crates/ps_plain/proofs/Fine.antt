@@ -1,4 +1,5 @@
 -- What a datum reads as is valid in its scope, and no larger than the datum's weight.
+-- For: `program_is_valid`
 use Rattle.std.proofs.Common.{◌≡◌, ℕ, ℤ, suc, ◌+◌, ◌<◌, ◌≤◌, List, [], ◌∷◌, length, map, Option, Some, None, refl, sym, ap, ◌∙◌, subst, arith}
 use Rattle.std.specs.Prelude.{Bool, true, false, if◌then◌else◌, slice_get, is_some}
 use Rattle.std.specs.Option.{option_map}

@@ -1,4 +1,5 @@
 -- What a list of options holds, where each holds something.
+-- For: `data_have_one_program`, `program_is_valid` and `faults_tell_programs`
 use Rattle.std.proofs.Common.{◌≡◌, List, ◌∷◌, Option, Some, None, refl}
 use Rattle.ps_plain.specs.Forms.{and_also}
 

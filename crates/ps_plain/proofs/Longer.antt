@@ -1,4 +1,5 @@
 -- What a part of a run does with more calls left.
+-- For: `larger_bound_keeps`
 use Rattle.std.proofs.Common.{◌≡◌, ℕ, zero, suc, ◌+◌, List, [], ◌∷◌, Option, Some, None, refl, sym, ap, subst, arith}
 use Rattle.std.specs.Prelude.{Bool, true, false, if◌then◌else◌}
 use Rattle.byte_store.specs.declared.event.Event.{Event}

@@ -1,4 +1,5 @@
 -- Where the definition of `main` stands among definitions, it is the only one, so that their order as a program is one.
+-- For: `data_have_one_program` and `program_is_valid`
 use Rattle.std.proofs.Common.{◌≡◌, ℕ, suc, List, [], ◌∷◌, ◌++◌, Some, sym, ap, ◌∙◌, subst}
 use Rattle.std.specs.Prelude.{slice_get, codes}
 use Rattle.std.specs.List.{AllByRecursion}

@@ -1,4 +1,5 @@
 -- In each position a datum reads as something exactly where it has no fault there.
+-- For: `faults_tell_programs`
 use Rattle.std.proofs.Common.{◌≡◌, ℕ, ℤ, suc, List, [], ◌∷◌, ◌++◌, length, map, Option, Some, None, refl, sym, ap, ◌∙◌, subst, arith}
 use Rattle.std.specs.Prelude.{Bool, true, false, ◌&&◌, if◌then◌else◌, nat_lt, is_some, slice_get}
 use Rattle.std.specs.Option.{option_map}

@@ -1,4 +1,5 @@
 -- A program of data is valid, and no larger than the data.
+-- For: `data_have_one_program` and `program_is_valid`
 use Rattle.std.proofs.Common.{◌≡◌, ℕ, ◌≤◌, List, [], ◌∷◌, ◌++◌, length, map, Option, Some, None, refl, sym, ap, ◌∙◌, subst, arith}
 use Rattle.std.specs.Prelude.{slice_get, true}
 use Rattle.std.specs.List.{AllByRecursion}

@@ -1,4 +1,5 @@
 -- A relation of runs that the parts of a run keep is kept by the bodies of procedures, where entering one keeps it.
+-- For: `larger_bound_keeps` and `calls_enter_procedures`
 use Rattle.std.proofs.Common.{ℕ, ℤ, ◌+◌, List, [], ◌∷◌, map, Option, sym, subst}
 use Rattle.std.specs.Prelude.{Bool, if◌then◌else◌}
 use Rattle.std.specs.List.{AllByRecursion}

@@ -1,4 +1,5 @@
 -- Parts of a run that do the same wherever few enough procedures may still be entered.
+-- For: `calls_enter_procedures`
 use Rattle.std.proofs.Common.{◌≡◌, ℕ, ℤ, zero, suc, ◌<◌, ◌≤◌, Option, Some, None, refl, ap, ◌∙◌, arith}
 use Rattle.std.specs.Prelude.{Bool, true, false, if◌then◌else◌}
 use Rattle.byte_store.specs.declared.event.Event.{Event}

@@ -1,4 +1,5 @@
 -- Parts of a run that end neither Wrong nor out of cells, and what their values are.
+-- For: `program_is_sound`
 use Rattle.std.proofs.Common.{ℕ, zero, suc, Option, Some, None}
 use Rattle.std.specs.Prelude.{Bool, true, false, if◌then◌else◌}
 use Rattle.byte_store.specs.declared.event.Event.{Event}

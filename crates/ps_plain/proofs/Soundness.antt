@@ -1,4 +1,5 @@
 -- Evaluating the parts of a valid program ends neither Wrong nor out of cells.
+-- For: `program_is_sound`
 use Rattle.std.proofs.Common.{◌≡◌, ℕ, ℤ, zero, suc, ◌+◌, ◌<◌, List, [], ◌∷◌, length, map, Option, Some, None, refl, sym, ap, ◌∙◌, subst}
 use Rattle.std.specs.Prelude.{true, if◌then◌else◌, ◌&&◌, nat_lt, slice_get}
 use Rattle.std.specs.List.{AllByRecursion}

@@ -1,5 +1,6 @@
 -- The faults of names in a body depend on the definitions only through the number of parameters that each name is defined
 -- with, so that the order of definitions with different names makes no difference.
+-- For: `faults_tell_programs`
 use Rattle.std.proofs.Common.{◌≡◌, ℕ, suc, List, [], ◌∷◌, ◌++◌, length, map, Option, Some, None, refl, sym, ap, ◌∙◌, subst}
 use Rattle.std.specs.Prelude.{Bool, true, false, if◌then◌else◌, is_some, slice_get}
 use Rattle.std.specs.Option.{option_map}

@@ -1,4 +1,5 @@
 -- What tests say of lists and numbers.
+-- For: `program_is_sound`, and the heads and parameters of `resolve`
 use Rattle.std.proofs.Common.{◌≡◌, ℕ, zero, suc, ◌<◌, List, [], ◌∷◌, length, Option, Some, None, refl, ap, subst, arith}
 use Rattle.std.specs.Prelude.{Bool, true, false, ◌&&◌, slice_get}
 use Rattle.std.specs.List.{AllByRecursion}

@@ -1,4 +1,5 @@
 -- Induction over expressions, and the clauses of a fold.
+-- For: `program_is_valid`, `program_is_sound` and the laws of runs
 use Rattle.std.proofs.Common.{◌≡◌, ℕ, ℤ, List, [], ◌∷◌, map, sym, ap, ◌∙◌, subst}
 use Rattle.std.specs.List.{AllByRecursion}
 use Rattle.ps_base.specs.declared.faults.Place.{Place}

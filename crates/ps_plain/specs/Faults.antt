@@ -1,7 +1,8 @@
 -- Where data are no program (this project's own): the first datum that has not the shape that is expected in its place, a list
 -- before its parts; else the first name that breaks a condition, in order of the text; else the place where the text begins,
 -- where there is no `main`.
-use Rattle.std.specs.Prelude.{ℕ, suc, List, [], ◌∷◌, ◌++◌, length, map, Bool, true, false, ◌&&◌, if◌then◌else◌, nat_eq, nat_lt, Option, Some, None, is_some, codes, slice_get}
+use Rattle.std.specs.Prelude.{ℕ, suc, List, [], ◌∷◌, ◌++◌, length, map, Bool, true, false, ◌&&◌, if◌then◌else◌, nat_eq, nat_lt, Option}
+use Rattle.std.specs.Prelude.{Some, None, is_some, codes, slice_get}
 use Rattle.std.specs.List.{list_any}
 use Rattle.std.specs.Str.{bytes_eq}
 use Rattle.ps_base.specs.Names.{number_of}
@@ -9,6 +10,7 @@ use Rattle.ps_base.specs.Numbers.{is_word}
 use Rattle.ps_base.specs.declared.faults.Place.{Place}
 use Rattle.ps_datum.specs.declared.datum.Datum.{Datum, fold-Datum}
 use Rattle.ps_datum.specs.declared.datum.DatumKind.TheOpen.{DatumKind-F}
+use Rattle.ps_plain.specs.Most.{most_parameters}
 use Rattle.ps_plain.specs.declared.program.Keyword.{Keyword}
 use Rattle.ps_plain.specs.declared.program.Keyword.TheVariants as keywords
 use Rattle.ps_plain.specs.Forms.{keyword_of, keyword_in, is_name, Scope, has_arity, Head, head_by, all_some, scope_in, heads_of}
@@ -167,10 +169,12 @@ abbrev pub with_word : List (List ℕ) → Option (List ℕ) → List (List ℕ)
 with_word names None = names
 with_word names (Some w) = names ++ w ∷ []
 
--- the parameters have different names, and are at most 127; so many stand before, with these names
+-- the parameters have different names, and are not too many; so many stand before, with these names
 abbrev pub parameters_names : ℕ → List (List ℕ) → List Flaws → Option Place
 parameters_names n before [] = None
-parameters_names n before (f ∷ fs) = if is_among before f.word then Some f.place else (if nat_lt n 127 then parameters_names (suc n) (with_word before f.word) fs else Some f.place)
+parameters_names n before (f ∷ fs) =
+    if is_among before f.word then Some f.place
+    else (if nat_lt n most_parameters then parameters_names (suc n) (with_word before f.word) fs else Some f.place)
 
 -- a head defines a new name
 abbrev pub head_list_names : List (List ℕ) → List Flaws → Option Place
@@ -259,7 +263,8 @@ shapes_fault names ds = first_of (map (λ d. (flaws names d).definition_shape) d
 
 -- the definitions that are left, where the heads of all and the names defined before are these
 abbrev pub names_from : List (List ℕ) → List Head → List (List ℕ) → List Head → List Datum → Option Place
-names_from names heads defined (h ∷ hs) (d ∷ ds) = or_else ((flaws names d).definition_names heads defined) (names_from names heads (defined ++ h.name ∷ []) hs ds)
+names_from names heads defined (h ∷ hs) (d ∷ ds) =
+    or_else ((flaws names d).definition_names heads defined) (names_from names heads (defined ++ h.name ∷ []) hs ds)
 names_from names heads defined _ _ = None
 
 abbrev pub names_fault : List (List ℕ) → Option (List Head) → List Datum → Option Place
@@ -284,4 +289,6 @@ text_fault (d ∷ ds) = None
 
 -- where the definitions are no program, if they are none
 abbrev pub fault_of : List (List ℕ) → List Datum → Option Place
-fault_of names ds = or_else (text_fault ds) (or_else (shapes_fault names ds) (or_else (names_fault names (heads_of names ds) ds) (main_fault (heads_of names ds))))
+fault_of names ds =
+    or_else (text_fault ds)
+    (or_else (shapes_fault names ds) (or_else (names_fault names (heads_of names ds) ds) (main_fault (heads_of names ds))))

@@ -1,6 +1,7 @@
 -- Which data are a program (R5RS 4.1 and 5.2, in this project's profile): how a datum reads in each position that it
 -- may stand in, and the conditions on names.
-use Rattle.std.specs.Prelude.{◌≡◌, ℕ, ◌≤◌, List, [], ◌∷◌, ◌++◌, length, map, Bool, false, not, if◌then◌else◌, nat_eq, Option, Some, None, is_some, codes, slice_get}
+use Rattle.std.specs.Prelude.{◌≡◌, ℕ, ◌≤◌, List, [], ◌∷◌, ◌++◌, length, map, Bool, false, not, if◌then◌else◌, nat_eq, Option, Some, None}
+use Rattle.std.specs.Prelude.{is_some, codes, slice_get}
 use Rattle.std.specs.Option.{option_map}
 use Rattle.std.specs.List.{AllByRecursion, list_all}
 use Rattle.std.specs.Str.{bytes_eq}
@@ -10,6 +11,7 @@ use Rattle.ps_base.specs.declared.faults.Place.{Place}
 use Rattle.ps_base.specs.declared.names.Name.{Name}
 use Rattle.ps_datum.specs.declared.datum.Datum.{Datum, fold-Datum}
 use Rattle.ps_datum.specs.declared.datum.DatumKind.TheOpen.{DatumKind-F}
+use Rattle.ps_plain.specs.Most.{most_parameters}
 use Rattle.ps_plain.specs.declared.program.Operator.{Operator}
 use Rattle.ps_plain.specs.declared.program.Operator.TheVariants as operators
 use Rattle.ps_plain.specs.declared.program.Comparison.{Comparison}
@@ -218,7 +220,8 @@ first_symbol (p ∷ ps) = p.symbol
 abbrev pub procedure_by : Place → Scope → Option Body → Option Name → Option Procedure
 procedure_by p s None f = None
 procedure_by p s (Some b) None = None
-procedure_by p s (Some b) (Some f) = Some (record { place = p; name = f; parameters = length s.parameters; writes = b.writes; value = b.value })
+procedure_by p s (Some b) (Some f) =
+    Some (record { place = p; name = f; parameters = length s.parameters; writes = b.writes; value = b.value })
 
 abbrev pub procedure_of : Scope → Place → List Part → Option Procedure
 procedure_of s p (d ∷ h ∷ body) = procedure_by p s (body_of s body) h.first
@@ -300,10 +303,10 @@ main_head = record { name = codes "main"; parameters = [] }
 -- the parameters have different names, and are not too many
 pub record IsHead (h : Head) : Type 0 where
   pub distinct : AreDistinct h.parameters
-  pub few : length h.parameters ≤ 127
+  pub few : length h.parameters ≤ most_parameters
 
--- Definitions, where a table lists the names, are a program where there is one of `main`, without parameters, no name is defined twice, and the names in
--- them stand for something. `main` is the first procedure, and the others follow in their order.
+-- Definitions, where a table lists the names, are a program where there is one of `main`, without parameters, no name is defined
+-- twice, and the names in them stand for something. `main` is the first procedure, and the others follow in their order.
 pub record IsProgram (names : List (List ℕ)) (definitions : List Datum) (p : Program) : Type 0 where
   pub before : List Datum
   pub main : Datum

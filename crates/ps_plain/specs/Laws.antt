@@ -16,7 +16,8 @@ use Rattle.ps_plain.specs.Meaning.{entering, enters, Source}
 -- A call from any place with no more calls left than the bound is entering the procedure, where calls are the same. So the
 -- bound on nesting is never met before the calls that are left.
 abbrev pub CallsEnterProcedures : Type 0
-CallsEnterProcedures = (p : Program) (n : ℕ) (at : Place) (depth f : ℕ) (vs : List ℤ) (s : State) → s.calls ≤ n → enters p n at depth f vs s ≡ entering p (enters p n) at depth f vs s
+CallsEnterProcedures = (p : Program) (n : ℕ) (at : Place) (depth f : ℕ) (vs : List ℤ) (s : State) → s.calls ≤ n →
+    enters p n at depth f vs s ≡ entering p (enters p n) at depth f vs s
 
 abbrev pub LargerBoundKeeps : Type 0
 LargerBoundKeeps = (p : Program) (w : Surroundings) → KeepsWhatItHas (Source p w)

@@ -1,3 +1,4 @@
+pub mod Most
 pub mod Forms
 pub mod Valid
 pub mod Size

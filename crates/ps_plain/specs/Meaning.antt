@@ -1,5 +1,6 @@
 -- What a program does (this project's own, after R5RS 4.1.3; the order of evaluation is fixed: from left to right).
-use Rattle.std.specs.Prelude.{ℕ, zero, suc, ℤ, ◌+◌, ◌+ℤ◌, ◌-ℤ◌, ◌*ℤ◌, int_lt, Bool, if◌then◌else◌, nat_eq, List, [], ◌∷◌, length, Option, Some, None, slice_get}
+use Rattle.std.specs.Prelude.{ℕ, zero, suc, ℤ, ◌+◌, ◌+ℤ◌, ◌-ℤ◌, ◌*ℤ◌, int_lt, Bool, if◌then◌else◌, nat_eq, List, [], ◌∷◌, length, Option}
+use Rattle.std.specs.Prelude.{Some, None, slice_get}
 use Rattle.std.specs.Ordering.{int_eq}
 use Rattle.ps_base.specs.declared.faults.Place.{Place}
 use Rattle.ps_base.specs.declared.faults.Op.TheVariants.{Overflow, Byte}

@@ -65,4 +65,5 @@ note e = λ s. Goes tt (record s { events = s.events ++ e ∷ [] })
 
 -- the next byte of the input is taken, or -1 at its end
 abbrev pub read_byte : Run ℤ
-read_byte = λ s. (let byte = next_byte s.world.input in Goes byte (record s { world = record s.world { input = rest_of s.world.input }; events = s.events ++ Input byte ∷ [] }))
+read_byte = λ s. (let byte = next_byte s.world.input in
+    Goes byte (record s { world = record s.world { input = rest_of s.world.input }; events = s.events ++ Input byte ∷ [] }))

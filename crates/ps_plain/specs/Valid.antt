@@ -3,6 +3,7 @@
 use Rattle.std.specs.Prelude.{◌≡◌, ℕ, ◌≤◌, List, [], ◌∷◌, length, map, Bool, true, ◌&&◌, nat_lt, Some, slice_get}
 use Rattle.std.specs.List.{AllByRecursion}
 use Rattle.ps_base.specs.Numbers.{is_word}
+use Rattle.ps_plain.specs.Most.{most_parameters}
 use Rattle.ps_plain.specs.declared.program.Expr.{Expr, fold-Expr}
 use Rattle.ps_plain.specs.declared.program.Expr.TheOpen.{Expr-F}
 use Rattle.ps_plain.specs.declared.program.Write.{Write}
@@ -40,7 +41,7 @@ abbrev pub named_in : List ℕ → Procedure → Named
 named_in arities q = record { parameters = q.parameters; procedures = arities }
 
 pub record IsProcedure (arities : List ℕ) (q : Procedure) : Type 0 where
-  pub few : q.parameters ≤ 127
+  pub few : q.parameters ≤ most_parameters
   pub writes : AllByRecursion (λ (w : Write). valid (named_in arities q) w.value ≡ true) q.writes
   pub value : valid (named_in arities q) q.value ≡ true
 

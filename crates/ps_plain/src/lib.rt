@@ -1,7 +1,6 @@
-//! Programs of procedures of integers: which data are one, and what one does.
-//!
-//! Nothing here is run by the compiler but the trees. The crate holds the definitions by which a program is resolved from data
-//! and compiled, and functions whose contracts are laws of these definitions.
+//! The tree of programs of procedures of integers, `Program`: which data are one, and what one does. No call computes.
+//! Data and a program: `specs/Forms.antt` and `Faults.antt`; by the laws `data_have_one_program` and `faults_tell_programs`.
+//! A program and its runs: `specs/Meaning.antt`; by the laws `larger_bound_keeps` and `program_is_sound`.
 #![tactic(auto)]
 
 mod laws;

@@ -1,4 +1,5 @@
 -- Bodies: the writes before the value.
+-- For: `procedure` and `writes`, and the operands in `expr`
 use Rattle.std.proofs.Common.{◌≡◌, ℕ, List, [], ◌∷◌, ◌++◌, map, length, Some, None, refl, sym, ap, ◌∙◌, get_or, arith}
 use Rattle.std.specs.Prelude.{Option}
 use Rattle.std.proofs.lemmas.List.{map-append}
@@ -11,8 +12,8 @@ use Rattle.ps_plain.specs.declared.program.Procedure.{Procedure}
 use Rattle.ps_plain.specs.Forms.{Scope, Part, part, Body, all_some, and_also, body_of, body_by, conditional_by, conditional_of, value_by, procedure_by}
 use Rattle.ps_resolve.specs.declared.program.Unresolved.{Unresolved}
 use Rattle.ps_resolve.specs.declared.program.Unresolved.TheVariants.{NotProgram, NoMemory}
-use Rattle.ps_resolve.specs.Refusals.{RefusesBy}
-use Rattle.ps_resolve.specs.Definitions.{procedure_at}
+use Rattle.ps_resolve.specs.InsideAnswers.{RefusesBy}
+use Rattle.ps_resolve.specs.InsideDefinitions.{procedure_at}
 
 abbrev whole : Option (List Write) → Option Expr → Option Body
 whole (Some ws) (Some e) = Some (record { writes = ws; value = e })

@@ -1,4 +1,5 @@
 -- Definitions, their heads and their procedures.
+-- For: `read_definitions`, `in_order`, `defined` and `procedures`
 use Rattle.std.proofs.Common.{◌≡◌, ℕ, suc, ◌+◌, ◌<◌, ◌≤◌, List, [], ◌∷◌, ◌++◌, map, length, take, drop, get_or, Some, zero, refl, ap, ◌∙◌, arith, subst}
 use Rattle.std.specs.List.{AllByRecursion}
 use Rattle.std.proofs.lemmas.List.{map-append}
@@ -9,7 +10,7 @@ use Rattle.ps_plain.specs.Forms.{Head, IsHead, part, heads_of, all_some, and_als
 use Rattle.ps_plain.proofs.Fine.{fine}
 use Rattle.ps_plain.proofs.Lists.{joined}
 use Rattle.ps_resolve.specs.declared.definition.Definition.{Definition}
-use Rattle.ps_resolve.specs.Definitions.{AreDefinitions, AreDefinitionsByRecursion, IsDefinition, head_in, heads_in, procedure_at, procedure_among}
+use Rattle.ps_resolve.specs.InsideDefinitions.{AreDefinitions, AreDefinitionsByRecursion, IsDefinition, head_in, heads_in, procedure_at, procedure_among}
 use Rattle.ps_resolve.proofs.Options.{around_place}
 use Rattle.ps_resolve.proofs.Parameters.{new-in_distinct}
 

@@ -1,4 +1,5 @@
 -- Definitions: their parts, and bodies, of which the value comes last.
+-- For: `definition_list_shape`, `body_shape`, `body_names` and `head_and_body`
 use Rattle.std.proofs.Common.{◌≡◌, ℕ, ◌-◌, ◌≤◌, List, [], ◌∷◌, ◌++◌, map, length, take, drop, get_or, false, Some, None, refl, sym, ap, ◌∙◌, arith}
 use Rattle.std.specs.Prelude.{Option, ◌==◌}
 use Rattle.std.proofs.lemmas.List.{map-append, take_rest}
@@ -7,8 +8,8 @@ use Rattle.ps_datum.specs.declared.datum.Datum.{Datum}
 use Rattle.ps_plain.specs.Faults.{Flaws, flaws, or_else, body_shape, body_names, defined_shape, definition_list_shape}
 use Rattle.ps_plain.specs.declared.program.Keyword.{Keyword}
 use Rattle.ps_plain.specs.Forms.{Scope, keyword_in}
-use Rattle.ps_resolve.specs.Kinds.{write_shapes}
-use Rattle.ps_resolve.specs.NameTables.{writes_names}
+use Rattle.ps_resolve.specs.InsideKinds.{write_shapes}
+use Rattle.ps_resolve.specs.InsideNameTables.{writes_names}
 
 or_else-assoc : (a b c : Option Place) → or_else a (or_else b c) ≡ or_else (or_else a b) c
 or_else-assoc None b c = refl

@@ -1,4 +1,5 @@
 -- Forms that have their shape, one after another, and the fault of all.
+-- For: `names_fault`, `has_main` and `fault`
 use Rattle.std.proofs.Common.{◌≡◌, ℕ, zero, suc, ◌+◌, ◌<◌, ◌≤◌, List, [], ◌∷◌, ◌++◌, map, length, take, drop, get_or, Bool, true, false, Some, None, refl, sym, ap, ◌∙◌, arith, subst, ◌||◌}
 use Rattle.std.specs.Prelude.{Option, if◌then◌else◌, ◌==◌, codes, ◌&&◌, nat_eq}
 use Rattle.std.specs.List.{list_any}
@@ -15,7 +16,7 @@ use Rattle.ps_plain.specs.Meaning.{start_place}
 use Rattle.ps_plain.specs.Forms.{Head, part, and_also, heads_of, scope_in}
 use Rattle.ps_plain.specs.Faults.{flaws, or_else, body_names, shapes_fault, names_from, names_fault, no_parameters, is_main, main_fault, text_fault, fault_of}
 use Rattle.ps_resolve.specs.declared.faults.DefinitionParts.{DefinitionParts}
-use Rattle.ps_resolve.specs.Heads.{HasParts, HaveHeads, IsHeadOf, head_at, head_fault, names_walk}
+use Rattle.ps_resolve.specs.InsideHeads.{HasParts, HaveHeads, IsHeadOf, head_at, head_fault, names_walk}
 use Rattle.ps_resolve.proofs.FaultHeads.{or_none, or_none-last}
 use Rattle.ps_resolve.proofs.FaultProcedures.{length-parameters}
 

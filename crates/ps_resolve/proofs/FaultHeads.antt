@@ -1,4 +1,5 @@
 -- Definitions that have their shape, and their heads.
+-- For: `head_and_body`, `definition` and `procedures_of`
 use Rattle.std.proofs.Common.{◌≡◌, ℕ, ◌<◌, List, [], ◌∷◌, map, length, Bool, true, false, Some, None, refl, sym, ap, ◌∙◌, arith, subst}
 use Rattle.std.specs.Prelude.{Option, slice_get, if◌then◌else◌, is_some}
 use Rattle.std.specs.List.{AllByRecursion, list_all}
@@ -15,8 +16,8 @@ use Rattle.ps_plain.specs.declared.program.Keyword.TheVariants as keywords
 use Rattle.ps_plain.specs.Forms.{Part, part, part_node, no_part, word_part, list_part, Head, keyword_in, defined_by, head_by, is_name, all_some, and_also, scope_in}
 use Rattle.ps_plain.specs.Faults.{Flaws, flaws, flaws_node, shapeless, name_flaws, word_flaws, list_flaws, or_else, is_among, parameters_names, body_in, body_names, defined_shape, definition_list_shape, definition_list_names, head_list_shape, head_list_names}
 use Rattle.ps_resolve.specs.declared.faults.DefinitionParts.{DefinitionParts}
-use Rattle.ps_resolve.specs.Kinds.{IsList, IsNoList, name_shapes}
-use Rattle.ps_resolve.specs.Heads.{IsDefine, HasParts, head_or, head_at, head_fault, words_of}
+use Rattle.ps_resolve.specs.InsideKinds.{IsList, IsNoList, name_shapes}
+use Rattle.ps_resolve.specs.InsideHeads.{IsDefine, HasParts, head_or, head_at, head_fault, words_of}
 use Rattle.ps_base.specs.Names.{number_of}
 use Rattle.std.proofs.lemmas.List.{length-map}
 

@@ -1,4 +1,5 @@
 -- Parameters, one after another.
+-- For: `parameters_fault`
 use Rattle.std.proofs.Common.{◌≡◌, ℕ, suc, ◌+◌, ◌<◌, ◌≤◌, List, [], ◌∷◌, ◌++◌, map, length, take, drop, get_or, Bool, false, Some, None, refl, sym, ap, ◌∙◌, arith, add-one}
 use Rattle.std.specs.Prelude.{Option, if◌then◌else◌, nat_lt}
 use Rattle.std.proofs.lemmas.List.{take_more, drop_more, map-append, length-append}
@@ -8,7 +9,7 @@ use Rattle.ps_datum.specs.declared.datum.Datum.{Datum}
 use Rattle.ps_plain.specs.Forms.{all_some, and_also}
 use Rattle.ps_plain.specs.Faults.{Flaws, flaws, is_among, with_word, parameters_names}
 use Rattle.ps_plain.proofs.Lists.{joined}
-use Rattle.ps_resolve.specs.Heads.{IsKnown, words_of}
+use Rattle.ps_resolve.specs.InsideHeads.{IsKnown, words_of}
 
 -- the last of options that all hold something
 record Last {A : Type 0} (xs : List (Option A)) (x : Option A) (ys : List A) : Type 0 where

@@ -1,4 +1,5 @@
 -- The table of the procedures that definitions define.
+-- For: `add_procedure` and `procedures_of`
 use Rattle.std.proofs.Common.{◌≡◌, ℕ, suc, ◌+◌, List, [], ◌∷◌, ◌++◌, map, length, Bool, true, false, Some, None, refl, sym, ap, ◌∙◌, arith, ⊎_elim}
 use Rattle.std.specs.Prelude.{Option, slice_get, is_some, not, if◌then◌else◌}
 use Rattle.std.specs.Option.{option_map}
@@ -12,7 +13,7 @@ use Rattle.ps_plain.specs.Faults.{Flaws, flaws}
 use Rattle.ps_plain.proofs.Lists.{joined}
 use Rattle.ps_resolve.specs.declared.faults.DefinitionParts.{DefinitionParts}
 use Rattle.ps_resolve.specs.declared.faults.Procedures.{Procedures}
-use Rattle.ps_resolve.specs.Heads.{IsAdded, IsHeadOf, Knows, arity_at}
+use Rattle.ps_resolve.specs.InsideHeads.{IsAdded, IsHeadOf, Knows, arity_at}
 use Rattle.ps_resolve.proofs.FaultTables.{is_some-map}
 
 length-all_some : {A : Type 0} (xs : List (Option A)) (ys : List A) → all_some xs ≡ Some ys → length xs ≡ length ys

@@ -1,4 +1,5 @@
 -- Scopes that tell the same of each name give the same faults.
+-- For: `definition_fault`
 use Rattle.std.proofs.Common.{◌≡◌, ℕ, List, [], ◌∷◌, map, length, Bool, true, false, Some, None, refl, sym, ap, ◌∙◌, subst}
 use Rattle.std.specs.Prelude.{Option, slice_get, if◌then◌else◌, is_some}
 use Rattle.std.specs.Option.{option_map}
@@ -14,7 +15,7 @@ use Rattle.ps_plain.specs.declared.program.Keyword.{Keyword}
 use Rattle.ps_plain.specs.declared.program.Keyword.TheVariants as keywords
 use Rattle.ps_plain.specs.Forms.{Scope, has_arity, keyword_of, is_name}
 use Rattle.ps_plain.specs.Faults.{Flaws, flaws, flaws_node, shapeless, name_flaws, word_flaws, list_flaws, or_else, exprs_names, called_names, call_names, conditional_names, form_names, headed_names, list_names, behind_names, body_names}
-use Rattle.ps_resolve.specs.Heads.{arity_at}
+use Rattle.ps_resolve.specs.InsideHeads.{arity_at}
 
 -- the same parameters, and the same numbers of operands for each name of a procedure
 pub record Tells (s t : Scope) : Type 0 where

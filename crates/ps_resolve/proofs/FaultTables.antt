@@ -1,4 +1,5 @@
 -- Names in tables, and what they are called by.
+-- For: `add_new` and `add_procedure`
 use Rattle.std.proofs.Common.{◌≡◌, ℕ, zero, suc, ◌<◌, List, [], ◌∷◌, ◌++◌, length, true, false, Some, None, refl, sym, ap, ◌∙◌, arith, subst, ⊎_elim, eq-eqb}
 use Rattle.std.specs.Prelude.{Option, slice_get, is_some, not, if◌then◌else◌, nat_eq}
 use Rattle.std.specs.Option.{option_map}
@@ -7,7 +8,7 @@ use Rattle.std.proofs.lemmas.Slice.Eq.{bytes_eq-Decides}
 use Rattle.std.proofs.lemmas.Bool.{ne_eqb}
 use Rattle.ps_base.proofs.Tables.{true_or_false}
 use Rattle.ps_base.specs.Names.{IsNew, Adds, number_of}
-use Rattle.ps_resolve.specs.Heads.{IsAdded}
+use Rattle.ps_resolve.specs.InsideHeads.{IsAdded}
 
 pub is_some-map : {A B : Type 0} (f : A → B) (x : Option A) → is_some (option_map f x) ≡ is_some x
 is_some-map f None = refl

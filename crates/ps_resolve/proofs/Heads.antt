@@ -1,4 +1,5 @@
 -- Heads of definitions.
+-- For: `read_definition` and `is_main`
 use Rattle.std.proofs.Common.{◌≡◌, ℕ, ◌≤◌, List, [], ◌∷◌, map, length, drop, get_or, Bool, true, false, Some, None, refl, sym, ap, ◌∙◌, arith, subst, ⊎_elim, ◌⊎◌, inl, inr}
 use Rattle.std.specs.Prelude.{Option, codes, if◌then◌else◌}
 use Rattle.std.specs.List.{list_all}
@@ -9,7 +10,7 @@ use Rattle.ps_datum.specs.declared.datum.Datum.{Datum, out-Datum}
 use Rattle.ps_plain.specs.Forms.{Scope, Part, part, Head, IsHead, main_head, and_also, head_by, first_symbol, is_name}
 use Rattle.ps_plain.proofs.Lists.{joined}
 use Rattle.ps_plain.proofs.Tests.{and_true}
-use Rattle.ps_resolve.specs.Definitions.{words_of, procedure_at, IsDefine, AreParameters}
+use Rattle.ps_resolve.specs.InsideDefinitions.{words_of, procedure_at, IsDefine, AreParameters}
 use Rattle.ps_resolve.proofs.Options.{length-all_some}
 
 true_or_false : (b : Bool) → (b ≡ true) ⊎ (b ≡ false)

@@ -1,10 +1,11 @@
 -- The first definition of `main`.
+-- For: `around_main`
 use Rattle.std.proofs.Common.{◌≡◌, ℕ, ◌<◌, ◌≤◌, List, ◌∷◌, length, Some, ap, ◌∙◌, arith}
 use Rattle.std.specs.Prelude.{slice_get}
 use Rattle.std.proofs.lemmas.List.{length-append}
 use Rattle.ps_datum.specs.declared.datum.Datum.{Datum}
 use Rattle.ps_plain.specs.Forms.{part, main_head}
-use Rattle.ps_resolve.specs.Definitions.{IsAround}
+use Rattle.ps_resolve.specs.InsideDefinitions.{IsAround}
 use Rattle.ps_resolve.proofs.Parameters.{slice_get-behind}
 
 -- none of the first i data is a definition of `main`

@@ -1,4 +1,5 @@
 -- Options that all hold something.
+-- For: loops over parts that all read: in `expr`, `writes`, `parameters` and `read_definitions`
 use Rattle.std.proofs.Common.{◌≡◌, ℕ, suc, ◌+◌, ◌<◌, List, [], ◌∷◌, ◌++◌, map, length, take, drop, get_or, Some, None, refl, sym, ap, ◌∙◌}
 use Rattle.std.specs.Prelude.{Option}
 use Rattle.std.proofs.lemmas.List.{take-append-drop, take_more, drop_more, map-append}

@@ -1,4 +1,5 @@
 -- Different names, one after another.
+-- For: `parameters`
 use Rattle.std.proofs.Common.{◌≡◌, ℕ, zero, suc, ◌+◌, ◌<◌, List, [], ◌∷◌, ◌++◌, length, take, get_or, true, Some, refl, sym, ap, ◌∙◌, arith, subst}
 use Rattle.std.specs.Prelude.{slice_get}
 use Rattle.std.specs.List.{list_all}
@@ -9,7 +10,7 @@ use Rattle.ps_base.specs.Names.{AreDistinct, IsNew}
 use Rattle.ps_datum.specs.declared.datum.Datum.{Datum}
 use Rattle.ps_plain.specs.Forms.{Part, part, is_name}
 use Rattle.ps_plain.proofs.Tests.{and_true}
-use Rattle.ps_resolve.specs.Definitions.{AreParameters}
+use Rattle.ps_resolve.specs.InsideDefinitions.{AreParameters}
 use Rattle.ps_resolve.proofs.Options.{one_more, split_at}
 
 -- the member behind others

@@ -1,4 +1,5 @@
 -- Programs of definitions whose heads were read.
+-- For: `program_of`
 use Rattle.std.proofs.Common.{◌≡◌, ℕ, ◌≤◌, List, ◌∷◌, ◌++◌, length, Some, sym, ap, ◌∙◌, arith, subst}
 use Rattle.std.proofs.lemmas.List.{length-append}
 use Rattle.ps_base.specs.Names.{AreDistinct}
@@ -9,7 +10,7 @@ use Rattle.ps_plain.specs.declared.program.Program.{Program}
 use Rattle.ps_plain.specs.Forms.{IsProgram, heads_of, names_in, procedures_in}
 use Rattle.ps_plain.proofs.Order.{same_order}
 use Rattle.ps_resolve.specs.declared.definition.Definition.{Definition}
-use Rattle.ps_resolve.specs.Definitions.{IsAround, AreDefinitions, AreProcedures, heads_in}
+use Rattle.ps_resolve.specs.InsideDefinitions.{IsAround, AreDefinitions, AreProcedures, heads_in}
 use Rattle.ps_resolve.proofs.Definitions.{GoodHeads, heads-of_definitions, are_heads, procedures-of_definitions, length-definitions, length-weights}
 
 module _ (names : List (List ℕ)) (forms before : List Datum) (main : Datum) (after : List Datum) (around : IsAround names forms before main after) where

@@ -1,6 +1,7 @@
 pub mod Refusals
-pub mod Values
-pub mod Definitions
-pub mod Kinds
-pub mod NameTables
-pub mod Heads
+pub mod InsideAnswers
+pub mod InsideValues
+pub mod InsideDefinitions
+pub mod InsideKinds
+pub mod InsideNameTables
+pub mod InsideHeads

@@ -1,13 +1,15 @@
 //! Definitions of procedures.
 
 ghost use Rattle.std.specs.Prelude.{◌≡◌, ◌<◌, ◌++◌, ◌∷◌, [], List, ℕ, true, false, map, length, MatchOption, None, Some, IfOk, IsTrue, ◌↔◌};
+ghost use Rattle.ps_base.specs.Limits.{most_numbered};
 ghost use Rattle.ps_base.specs.Names.{AreDistinct, IsNew};
 ghost use Rattle.ps_plain.specs.Forms.{Part, part, Head, IsHead, main_head, is_name, all_some};
-ghost use Rattle.ps_resolve.specs.Refusals.{IsRead, IsUnresolved};
-ghost use Rattle.ps_resolve.specs.Values.{scope_of};
-ghost use Rattle.ps_resolve.specs.Definitions.{IsDefine, AreParameters, IsDefinition, procedure_at};
+ghost use Rattle.ps_resolve.specs.InsideAnswers.{IsRead, IsUnresolved};
+ghost use Rattle.ps_resolve.specs.InsideValues.{scope_of};
+ghost use Rattle.ps_resolve.specs.InsideDefinitions.{IsDefine, AreParameters, IsDefinition, procedure_at};
 
 use crate::expr::expr;
+use crate::faults::PARAMETERS;
 use crate::program::Unresolved;
 use crate::scope::Scope;
 use crate::symbols::{keyword, symbol, word};
@@ -16,9 +18,6 @@ use ps_base::{Items, Name, Names, Place};
 use ps_datum::{Datum, DatumKind};
 use ps_plain::{Keyword, Procedure, Write};
 use std::alloc::Global;
-
-// How many parameters a procedure may have.
-const PARAMETERS: u32 = 127;
 
 // A definition whose head was read: its place, the name that it defines and the text of this, the parameters, and the body.
 #[derive(Drop)]
@@ -79,7 +78,7 @@ fn name<'a>(names: &'a Names, datum: &Datum) -> Option<(Name, &'a [u8])>
 
 // Adds a name that is not there yet.
 pub(crate) fn add_new(names: &mut Names, name: &[u8]) -> Result<(), Unresolved>
-    requires { length names.old < 4294967295 }
+    requires { length names.old < most_numbered }
     ensures added { IfOk result (λ _. names.new ≡ names.old ++ name.now ∷ []) }
     ensures is_distinct { AreDistinct names.new }
     ensures refused { IsUnresolved result → IsNew names.old name.now → ⊥ }
@@ -101,7 +100,7 @@ fn parameters(alloc: Global, names: &Names, words: &[Datum]) -> Result<Names, Un
         let Some((_, name)) = name(names, datum) else {
             return Err(Unresolved::NotProgram);
         };
-        if parameters.len() >= PARAMETERS {
+        if parameters.len() as usize >= PARAMETERS {
             return Err(Unresolved::NotProgram);
         }
         add_new(&mut parameters, name)?;

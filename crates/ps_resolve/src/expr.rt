@@ -2,8 +2,8 @@
 
 ghost use Rattle.std.specs.Prelude.{ℕ, List, map};
 ghost use Rattle.ps_plain.specs.Forms.{Part, part, keyword_of, form_by, operation_of, conditional_of, call_of, read_of, all_some};
-ghost use Rattle.ps_resolve.specs.Refusals.{IsRead, IsReadAs};
-ghost use Rattle.ps_resolve.specs.Values.{scope_of, test_of};
+ghost use Rattle.ps_resolve.specs.InsideAnswers.{IsRead, IsReadAs};
+ghost use Rattle.ps_resolve.specs.InsideValues.{scope_of, test_of};
 
 use crate::program::Unresolved;
 use crate::scope::{Scope, called, parameter};

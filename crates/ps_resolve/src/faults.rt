@@ -3,10 +3,11 @@
 ghost use Rattle.std.specs.Prelude.{◌≡◌, ℕ, suc, ◌≤◌, ◌<◌, ◌++◌, ◌∷◌, [], List, length, map, nat_eq, ◌&&◌, codes, None, Some, IfOk};
 ghost use Rattle.std.specs.List.{list_any};
 ghost use Rattle.std.specs.Str.{bytes_eq};
+ghost use Rattle.ps_base.specs.Limits.{most_numbered};
 ghost use Rattle.ps_datum.specs.Weight.{weights};
 ghost use Rattle.ps_plain.specs.Forms.{Head, scope_in};
 ghost use Rattle.ps_plain.specs.Faults.{flaws, or_else, parameters_names, body_names, shapes_fault, is_main, fault_of};
-ghost use Rattle.ps_resolve.specs.Heads.{IsAdded, IsKnown, IsDefine, HasParts, IsHeadOf, HaveHeads, Knows, head_at, head_fault, words_of, names_walk};
+ghost use Rattle.ps_resolve.specs.InsideHeads.{IsAdded, IsKnown, IsDefine, HasParts, IsHeadOf, HaveHeads, Knows, head_at, head_fault, words_of, names_walk};
 
 use crate::name_faults::{NamesInScope, body_names};
 use crate::shapes::{parts, shapes_fault};
@@ -17,7 +18,7 @@ use ps_datum::Datum;
 use std::alloc::Global;
 
 // How many parameters a procedure may have.
-const PARAMETERS: usize = 127;
+pub(crate) const PARAMETERS: usize = 127;
 
 // Where a text begins.
 const START: Place = Place {
@@ -81,7 +82,7 @@ fn definition<'a>(names: &'a Names, form: &'a Datum) -> DefinitionParts<'a>
 
 // Adds a name, unless it is there. Whether it was added.
 fn add_new(names: &mut Names, name: &[u8]) -> Result<bool, NoMemory>
-    requires { length names.old < 4294967295 }
+    requires { length names.old < most_numbered }
     ensures { IfOk result (λ added. IsAdded names.old names.new name.now added) }
 {
     let count = names.len();
@@ -90,7 +91,7 @@ fn add_new(names: &mut Names, name: &[u8]) -> Result<bool, NoMemory>
 
 // Adds the name that a datum is. Whether it was there.
 fn is_among(names: &Names, before: &mut Names, datum: &Datum) -> Result<bool, NoMemory>
-    requires { length before.old < 4294967295 }
+    requires { length before.old < most_numbered }
     ensures { IfOk result (λ there. IsKnown before.old before.new (flaws names.now datum.now).word there) }
 {
     match word(names, datum) {
@@ -128,7 +129,7 @@ fn head_fault(
     parameters: &mut Names,
     definition: &DefinitionParts<'_>,
 ) -> Result<Option<Place>, NoMemory>
-    requires room { length defined.old < 4294967295 }
+    requires room { length defined.old < most_numbered }
     requires empty { parameters.old ≡ [] }
     ensures fault { IfOk result (λ at. at ≡ head_fault names.now defined.old definition.now) }
     ensures defined { IfOk result (λ at. at ≡ None → defined.new ≡ defined.old ++ definition.now.name.now ∷ []) }
@@ -149,7 +150,7 @@ fn definition_fault(
     defined: &mut Names,
     definition: &DefinitionParts<'_>,
 ) -> Result<Option<Place>, NoMemory>
-    requires { length defined.old < 4294967295 }
+    requires { length defined.old < most_numbered }
     ensures fault { IfOk result (λ at. (heads : List Head) (h : Head) → Knows heads procedures.now → IsHeadOf names.now h definition.now → at ≡ or_else (head_fault names.now defined.old definition.now) (body_names (scope_in heads h) (map (flaws names.now) definition.now.body.now))) }
     ensures defined { IfOk result (λ at. at ≡ None → defined.new ≡ defined.old ++ definition.now.name.now ∷ []) }
 {
@@ -171,7 +172,7 @@ fn add_procedure(
     names: &Names,
     definition: &DefinitionParts<'_>,
 ) -> Result<(), NoMemory>
-    requires { length procedures.old.names < 4294967295 }
+    requires { length procedures.old.names < most_numbered }
     ensures knows { IfOk result (λ _. (heads : List Head) (h : Head) → Knows heads procedures.old → IsHeadOf names.now h definition.now → Knows (heads ++ h ∷ []) procedures.new) }
     ensures small { IfOk result (λ _. length procedures.new.names ≤ suc (length procedures.old.names)) }
 {
@@ -184,7 +185,7 @@ fn add_procedure(
 // The procedures that forms define.
 fn procedures_of(alloc: Global, names: &Names, forms: &[Datum]) -> Result<Procedures, NoMemory>
     requires shape { shapes_fault names.now forms.now ≡ None }
-    requires few { length forms.now < 4294967295 }
+    requires few { length forms.now < most_numbered }
     ensures knows { IfOk result (λ t. Knows (map (head_at names.now) forms.now) t) }
     ensures heads { IfOk result (λ _. HaveHeads names.now forms.now) }
 {
@@ -207,7 +208,7 @@ fn names_fault(
     forms: &[Datum],
 ) -> Result<Option<Place>, NoMemory>
     requires shape { shapes_fault names.now forms.now ≡ None }
-    requires few { length forms.now < 4294967295 }
+    requires few { length forms.now < most_numbered }
     ensures { IfOk result (λ at. (heads : List Head) → Knows heads procedures.now → at ≡ names_walk names.now heads [] forms.now) }
 {
     let mut defined = Names::new(alloc);
@@ -249,7 +250,7 @@ pub(crate) fn fault(
     names: &Names,
     forms: &[Datum],
 ) -> Result<Option<Place>, NoMemory>
-    requires { weights forms.now < 4294967295 }
+    requires { weights forms.now < most_numbered }
     ensures { IfOk result (λ at. at ≡ fault_of names.now forms.now) }
 {
     if forms.is_empty() {

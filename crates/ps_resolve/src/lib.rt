@@ -1,4 +1,5 @@
-//! From data to programs: what each form is, and what each name stands for.
+//! From data and the table of their names to the program of procedures that they are, or the place of their first fault.
+//! By `resolve`, which serves `IsProgram` and `fault_of` of `ps_plain`.
 #![tactic(auto)]
 
 mod definition;
@@ -12,6 +13,3 @@ mod symbols;
 mod words;
 
 pub use program::resolve;
-
-#[cfg(test)]
-mod tests;

@@ -3,7 +3,7 @@
 ghost use Rattle.std.specs.Prelude.{◌≡◌, map, slice_get, MatchOption, None, Some};
 ghost use Rattle.ps_plain.specs.Forms.{keyword_of, has_arity};
 ghost use Rattle.ps_plain.specs.Faults.{flaws, word_flaws, exprs_names, variable_names, call_names, conditional_names, form_names, behind_names, body_names};
-ghost use Rattle.ps_resolve.specs.NameTables.{scope_of, writes_names};
+ghost use Rattle.ps_resolve.specs.InsideNameTables.{scope_of, writes_names};
 
 use crate::shapes::parts;
 use crate::symbols::word;

@@ -2,6 +2,7 @@
 
 ghost use Rattle.std.specs.Prelude.{◌≡◌, ◌<◌, ◌≤◌, ◌++◌, ◌∷◌, List, length, Some, IfOk, IfErr, MatchOption};
 ghost use Rattle.std.specs.List.{AllByRecursion};
+ghost use Rattle.ps_base.specs.Limits.{most_numbered};
 ghost use Rattle.ps_base.specs.Names.{AreDistinct};
 ghost use Rattle.ps_datum.specs.declared.datum.Datum.{Datum};
 ghost use Rattle.ps_datum.specs.Weight.{weights};
@@ -11,8 +12,9 @@ ghost use Rattle.ps_plain.specs.Forms.{IsProgram, Head, IsHead, part, main_head,
 ghost use Rattle.ps_plain.specs.Faults.{fault_of};
 ghost use Rattle.ps_plain.specs.Valid.{IsValid};
 ghost use Rattle.ps_plain.specs.Size.{program_size};
-ghost use Rattle.ps_resolve.specs.Refusals.{IsUnresolved, IsRefusalOf};
-ghost use Rattle.ps_resolve.specs.Definitions.{IsAround, AreDefinitions, AreProcedures, heads_in};
+ghost use Rattle.ps_resolve.specs.Refusals.{IsRefusalOf};
+ghost use Rattle.ps_resolve.specs.InsideAnswers.{IsUnresolved};
+ghost use Rattle.ps_resolve.specs.InsideDefinitions.{IsAround, AreDefinitions, AreProcedures, heads_in};
 
 use crate::definition::{Definition, add_new, is_main, procedure, read_definition};
 use crate::faults::fault;
@@ -104,7 +106,7 @@ fn in_order<'a>(
 
 // The names of procedures, which are different.
 fn defined(alloc: Global, definitions: &[Definition<'_>]) -> Result<Names, Unresolved>
-    requires { length definitions.now < 4294967295 }
+    requires { length definitions.now < most_numbered }
     ensures are_names { IfOk result (λ names. names ≡ names_in (heads_in definitions.now)) }
     ensures is_distinct { IfOk result (λ names. AreDistinct names) }
     ensures refused { IsUnresolved result → AreDistinct (names_in (heads_in definitions.now)) → ⊥ }
@@ -134,7 +136,7 @@ fn procedures(
     names: &Names,
     definitions: &[Definition<'_>],
 ) -> Result<Items<Procedure>, Unresolved>
-    requires { length definitions.now < 4294967295 }
+    requires { length definitions.now < most_numbered }
     ensures read { IfOk result (λ qs. AreProcedures names.now definitions.now qs) }
     ensures unread { IsUnresolved result → (qs : List Procedure) → AreProcedures names.now definitions.now qs → ⊥ }
 {
@@ -161,7 +163,7 @@ fn procedures(
 
 // The program that forms are.
 fn program_of(alloc: Global, names: &Names, forms: &[Datum]) -> Result<Program, Unresolved>
-    requires { weights forms.now < 4294967295 }
+    requires { weights forms.now < most_numbered }
     ensures resolved { IfOk result (λ p. IsProgram names.now forms.now p) }
     ensures valid { IfOk result (λ p. IsValid p) }
     ensures small { IfOk result (λ p. program_size p ≤ weights forms.now) }
@@ -185,7 +187,7 @@ fn program_of(alloc: Global, names: &Names, forms: &[Datum]) -> Result<Program, 
 /// expected in its place, a list before its parts; else the first name that breaks a condition, in order of the text; else,
 /// where there is no form or no `main`, line 1 and column 1 of file 0. `NoMemory` where memory ran out.
 pub fn resolve(alloc: Global, names: &Names, forms: &[Datum]) -> Result<Program, Refusal>
-    requires { weights forms.now < 4294967295 }
+    requires { weights forms.now < most_numbered }
     ensures resolved { IfOk result (λ p. IsProgram names.now forms.now p) }
     ensures valid { IfOk result (λ p. IsValid p) }
     ensures small { IfOk result (λ p. program_size p ≤ weights forms.now) }

@@ -2,7 +2,7 @@
 
 ghost use Rattle.std.specs.Prelude.{◌≡◌, slice_get, Some};
 ghost use Rattle.ps_plain.specs.Forms.{word_part, with_arity, called};
-ghost use Rattle.ps_resolve.specs.Values.{scope_of};
+ghost use Rattle.ps_resolve.specs.InsideValues.{scope_of};
 
 use crate::words::text;
 use ps_base::{Name, Names, Place};

@@ -4,7 +4,7 @@
 ghost use Rattle.std.specs.Prelude.{◌≡◌, if◌then◌else◌, map, slice_get, MatchOption, None, Some};
 ghost use Rattle.ps_base.specs.Numbers.{is_word};
 ghost use Rattle.ps_plain.specs.Faults.{flaws, word_flaws, expr_shapes, operands_shape, form_shape, conditional_shape, compared_shape, write_list_shape, head_list_shape, body_shape, definition_list_shape, defined_shape, shapes_fault};
-ghost use Rattle.ps_resolve.specs.Kinds.{IsList, IsNoList, name_shapes, write_shapes};
+ghost use Rattle.ps_resolve.specs.InsideKinds.{IsList, IsNoList, name_shapes, write_shapes};
 
 use crate::symbols::{keyword, word};
 use crate::words;

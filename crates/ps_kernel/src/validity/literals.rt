@@ -3,12 +3,10 @@
 ghost use Rattle.std.specs.Prelude.{◌≡◌, ◌↔◌, true};
 ghost use Rattle.std.specs.List.{list_all};
 ghost use Rattle.ps_kernel.specs.Valid.{Each, IsLiteral};
-ghost use Rattle.ps_kernel.specs.Walking.{is_stored_within, is_literal};
+ghost use Rattle.ps_kernel.specs.InsideWalks.{is_stored_within, is_literal};
 
+use crate::validity::DEPTH;
 use ps_datum::{Datum, DatumKind};
-
-// The deepest that a literal may be.
-const DEPTH: u32 = 1_000;
 
 // The fewest members that a vector has in a literal.
 const FEWEST: usize = 1;

@@ -3,8 +3,8 @@
 ghost use Rattle.std.specs.Prelude.{◌≡◌, [], map, OnOk};
 ghost use Rattle.std.specs.List.{fold};
 ghost use Rattle.ps_kernel.specs.Marks.{Node, TooDeep, Stands, Mentions, Names, Sequence, Replaces, Performs};
-ghost use Rattle.ps_kernel.specs.Steps.{Passes, Closes, opens, opens_entry, closes_entry, constant_steps};
-ghost use Rattle.ps_kernel.specs.Walking.{step, checked};
+ghost use Rattle.ps_kernel.specs.InsideSteps.{Passes, Closes, opens, opens_entry, closes_entry, constant_steps};
+ghost use Rattle.ps_kernel.specs.InsideWalks.{step, checked};
 
 use crate::expr::{Constant, GroupEntry, Operation};
 use crate::kernel::Kernel;
@@ -16,7 +16,7 @@ use ps_base::NoMemory;
 const NODES: u64 = 1_000_000;
 
 /// An expression.
-#[tactic(auto, unfolding(crate::specs::Walking::step))]
+#[tactic(auto, unfolding(crate::specs::InsideWalks::step))]
 pub fn meet_node(walk: &mut Walk, kernel: &Kernel)
     ensures { walk.new ≡ step kernel.now walk.old (Passes Node) }
 {
@@ -30,7 +30,7 @@ pub fn meet_node(walk: &mut Walk, kernel: &Kernel)
 }
 
 /// An expression below the last level.
-#[tactic(auto, unfolding(crate::specs::Walking::step))]
+#[tactic(auto, unfolding(crate::specs::InsideWalks::step))]
 pub fn meet_too_deep(walk: &mut Walk, kernel: &Kernel)
     ensures { walk.new ≡ step kernel.now walk.old (Passes TooDeep) }
 {
@@ -38,7 +38,7 @@ pub fn meet_too_deep(walk: &mut Walk, kernel: &Kernel)
 }
 
 /// A lambda, where it stands.
-#[tactic(auto, unfolding(crate::specs::Walking::step))]
+#[tactic(auto, unfolding(crate::specs::InsideWalks::step))]
 pub fn meet_lambda(walk: &mut Walk, kernel: &Kernel, lambda: u32)
     ensures { walk.new ≡ step kernel.now walk.old (Passes (Stands lambda)) }
 {
@@ -52,7 +52,7 @@ pub fn meet_lambda(walk: &mut Walk, kernel: &Kernel, lambda: u32)
 }
 
 /// The region of a local begins.
-#[tactic(auto, unfolding(crate::specs::Walking::step))]
+#[tactic(auto, unfolding(crate::specs::InsideWalks::step))]
 pub fn open(walk: &mut Walk, kernel: &Kernel, local: u32) -> Result<(), NoMemory>
     ensures { OnOk result (walk.new ≡ step kernel.now walk.old (opens local)) }
 {
@@ -66,7 +66,7 @@ pub fn open(walk: &mut Walk, kernel: &Kernel, local: u32) -> Result<(), NoMemory
 }
 
 /// The region of a local ends.
-#[tactic(auto, unfolding(crate::specs::Walking::step))]
+#[tactic(auto, unfolding(crate::specs::InsideWalks::step))]
 pub fn close(walk: &mut Walk, kernel: &Kernel, local: u32) -> Result<(), NoMemory>
     ensures { OnOk result (walk.new ≡ step kernel.now walk.old (Closes local)) }
 {
@@ -80,7 +80,7 @@ pub fn close(walk: &mut Walk, kernel: &Kernel, local: u32) -> Result<(), NoMemor
 }
 
 /// A local is mentioned.
-#[tactic(auto, unfolding(crate::specs::Walking::step))]
+#[tactic(auto, unfolding(crate::specs::InsideWalks::step))]
 pub fn mention(walk: &mut Walk, kernel: &Kernel, local: u32)
     ensures { walk.new ≡ step kernel.now walk.old (Passes (Mentions local [])) }
 {
@@ -134,7 +134,7 @@ pub fn close_group(walk: &mut Walk, kernel: &Kernel, group: &[GroupEntry]) -> Re
 }
 
 // The next mark is right or not.
-#[tactic(auto, unfolding(crate::specs::Walking::checked))]
+#[tactic(auto, unfolding(crate::specs::InsideWalks::checked))]
 fn check(walk: &mut Walk, right: bool)
     ensures { walk.new ≡ checked right walk.old }
 {
@@ -144,7 +144,7 @@ fn check(walk: &mut Walk, right: bool)
 }
 
 /// A definition is named.
-#[tactic(auto, unfolding(crate::specs::Walking::checked, crate::specs::Walking::step))]
+#[tactic(auto, unfolding(crate::specs::InsideWalks::checked, crate::specs::InsideWalks::step))]
 pub fn name_global(walk: &mut Walk, kernel: &Kernel, global: u32)
     ensures { walk.new ≡ step kernel.now walk.old (Passes (Names global)) }
 {
@@ -153,7 +153,7 @@ pub fn name_global(walk: &mut Walk, kernel: &Kernel, global: u32)
 }
 
 /// A constant.
-#[tactic(auto, unfolding(crate::specs::Walking::checked, crate::specs::Walking::step))]
+#[tactic(auto, unfolding(crate::specs::InsideWalks::checked, crate::specs::InsideWalks::step))]
 pub fn quote(walk: &mut Walk, kernel: &Kernel, constant: Constant)
     ensures { walk.new ≡ fold (step kernel.now) walk.old (constant_steps constant) }
 {
@@ -171,7 +171,7 @@ pub fn quote(walk: &mut Walk, kernel: &Kernel, constant: Constant)
 }
 
 /// A sequence of so many parts.
-#[tactic(auto, unfolding(crate::specs::Walking::checked, crate::specs::Walking::step))]
+#[tactic(auto, unfolding(crate::specs::InsideWalks::checked, crate::specs::InsideWalks::step))]
 pub fn begin(walk: &mut Walk, kernel: &Kernel, parts: usize)
     ensures { walk.new ≡ step kernel.now walk.old (Passes (Sequence parts)) }
 {
@@ -179,7 +179,7 @@ pub fn begin(walk: &mut Walk, kernel: &Kernel, parts: usize)
 }
 
 /// A call that takes the place of its procedure, in tail position or not.
-#[tactic(auto, unfolding(crate::specs::Walking::checked, crate::specs::Walking::step))]
+#[tactic(auto, unfolding(crate::specs::InsideWalks::checked, crate::specs::InsideWalks::step))]
 pub fn replace(walk: &mut Walk, kernel: &Kernel, tail: bool)
     ensures { walk.new ≡ step kernel.now walk.old (Passes (Replaces tail)) }
 {
@@ -187,7 +187,7 @@ pub fn replace(walk: &mut Walk, kernel: &Kernel, tail: bool)
 }
 
 /// A primitive with so many operands.
-#[tactic(auto, unfolding(crate::specs::Walking::checked, crate::specs::Walking::step))]
+#[tactic(auto, unfolding(crate::specs::InsideWalks::checked, crate::specs::InsideWalks::step))]
 pub fn perform(walk: &mut Walk, kernel: &Kernel, operation: Operation, operands: usize)
     ensures { walk.new ≡ step kernel.now walk.old (Passes (Performs operation operands)) }
 {

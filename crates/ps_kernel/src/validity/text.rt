@@ -4,18 +4,16 @@ ghost use Rattle.std.specs.Prelude.{◌≡◌, ◌↔◌, [], true, false, IfOk,
 ghost use Rattle.std.specs.List.{fold};
 ghost use Rattle.std.proofs.Math.ListN.{replicate};
 ghost use Rattle.ps_kernel.specs.Valid.{IsRightText, text, defined};
-ghost use Rattle.ps_kernel.specs.Steps.{form_steps};
-ghost use Rattle.ps_kernel.specs.Walking.{step, starts};
+ghost use Rattle.ps_kernel.specs.InsideSteps.{form_steps};
+ghost use Rattle.ps_kernel.specs.InsideWalks.{step, starts};
 
 use crate::kernel::{Form, Kernel, Numbers};
+use crate::validity::DEPTH;
 use crate::validity::locals::Locals;
 use crate::validity::once::{all_set, unset};
 use crate::validity::walk::{Walk, walk_expr};
 use ps_base::NoMemory;
 use std::alloc::Global;
-
-// The deepest that an expression may stand.
-const DEPTH: u32 = 1_000;
 
 // A walk that has met nothing.
 fn start(alloc: Global, kernel: &Kernel) -> Result<Walk, NoMemory>
@@ -42,7 +40,7 @@ fn walk_forms(walk: &mut Walk, kernel: &Kernel, forms: &[Form], levels: u32) -> 
     Ok(())
 }
 
-#[tactic(auto, using(crate::proofs::Texts::stopped_text, crate::proofs::Texts::whole_text))]
+#[tactic(auto, using(crate::proofs::WalkTellsRules::stopped_text, crate::proofs::WalkTellsRules::whole_text))]
 /// Whether the text of a kernel keeps the rules.
 pub fn is_right(alloc: Global, kernel: &Kernel) -> Result<bool, NoMemory>
     ensures { IfOk result (λ right. (right ≡ true) ↔ IsRightText kernel.now (text kernel.now)) }

@@ -2,8 +2,8 @@
 
 ghost use Rattle.std.specs.Prelude.{◌≡◌, OnOk};
 ghost use Rattle.std.specs.List.{fold};
-ghost use Rattle.ps_kernel.specs.Steps.{sequence_steps, part_steps, if_steps, let_steps, letrec_steps, call_steps, lambda_steps, group_steps, steps, kind_steps};
-ghost use Rattle.ps_kernel.specs.Walking.{step};
+ghost use Rattle.ps_kernel.specs.InsideSteps.{sequence_steps, part_steps, if_steps, let_steps, letrec_steps, call_steps, lambda_steps, group_steps, steps, kind_steps};
+ghost use Rattle.ps_kernel.specs.InsideWalks.{step};
 
 use crate::expr::{Expr, ExprKind, GroupEntry};
 use crate::kernel::Kernel;

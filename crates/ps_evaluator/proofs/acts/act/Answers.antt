@@ -3,10 +3,10 @@ use Rattle.ps_prims.specs.declared.stages.Stage.TheVariants.{Run as AtRun}
 use Rattle.ps_meaning.specs.Values.{run_values, run_locals}
 use Rattle.ps_meaning.specs.Run.{and_then}
 use Rattle.ps_meaning.specs.Eval.{operation, run_entering, run_enters}
-use Rattle.ps_meaning.proofs.Bounds.{unrolled}
+use Rattle.ps_meaning.proofs.LargerBoundsKeep.{unrolled}
 use Rattle.ps_evaluator.specs.declared.machine.Control.TheVariants.{Do}
 use Rattle.ps_evaluator.specs.declared.machine.Frame.{Frame}
-use Rattle.ps_evaluator.specs.Machine.{Becomes, Same, does, plug, state_of}
+use Rattle.ps_evaluator.specs.InsideMachine.{Becomes, Same, does, plug, state_of}
 use Rattle.ps_evaluator.proofs.Joins.{if_ok_map}
 use Rattle.ps_evaluator.proofs.acts.act.Goals as goal
 

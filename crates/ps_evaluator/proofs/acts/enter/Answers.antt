@@ -1,6 +1,6 @@
 use Rattle.std.proofs.Common.{◌≡◌, ◌-◌, suc, length, ap, ◌∙◌, sym, arith}
 use Rattle.ps_meaning.specs.Eval.{entered}
-use Rattle.ps_evaluator.specs.Lists.{closed}
+use Rattle.ps_evaluator.specs.InsideLists.{closed}
 use Rattle.ps_evaluator.proofs.Entering.{enters}
 use Rattle.ps_evaluator.proofs.acts.enter.Goals as goal
 

@@ -4,7 +4,7 @@ use Rattle.ps_kernel.specs.declared.expr.Operation.TheVariants.{Named}
 use Rattle.ps_meaning.specs.declared.values.RunValue.TheVariants.{Plain}
 use Rattle.ps_meaning.specs.Values.{run_values, run_locals}
 use Rattle.ps_meaning.specs.Eval.{operation}
-use Rattle.ps_evaluator.specs.Machine.{Becomes, state_of}
+use Rattle.ps_evaluator.specs.InsideMachine.{Becomes, state_of}
 use Rattle.ps_evaluator.proofs.Joins.{if_ok_map}
 use Rattle.ps_evaluator.proofs.acts.operate.Goals as goal
 

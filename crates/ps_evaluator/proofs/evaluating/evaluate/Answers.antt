@@ -3,7 +3,7 @@ use Rattle.ps_meaning.specs.declared.values.RunValue.{RunValue}
 use Rattle.ps_meaning.specs.Eval.{defined_in}
 use Rattle.ps_meaning.specs.Source.{Program, run_memory}
 use Rattle.ps_evaluator.specs.declared.machine.Machine.{Machine}
-use Rattle.ps_evaluator.specs.Evaluating.{Begins}
+use Rattle.ps_evaluator.specs.InsideEvaluating.{Begins}
 use Rattle.ps_evaluator.proofs.Entering.{comes_to}
 use Rattle.ps_evaluator.proofs.evaluating.evaluate.Goals as goal
 

@@ -1,6 +1,6 @@
 use Rattle.std.proofs.Common.{◌≡◌, ◌≤◌, ℕ}
 use Rattle.ps_meaning.specs.Eval.{run_enters}
-use Rattle.ps_evaluator.specs.Machine.{now, rest, state_of}
+use Rattle.ps_evaluator.specs.InsideMachine.{now, rest, state_of}
 use Rattle.ps_evaluator.proofs.run.run.Given as goal
 
 abbrev pub invariant-loop-left : goal.invariant-loop-left

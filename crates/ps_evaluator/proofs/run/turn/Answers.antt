@@ -2,7 +2,7 @@ use Rattle.std.proofs.Common.{ap, ◌∙◌, sym}
 use Rattle.ps_meaning.specs.Run.{and_then, known}
 use Rattle.ps_meaning.specs.Eval.{run_enters, defined_in}
 use Rattle.ps_evaluator.specs.declared.machine.Control.TheVariants.{Work}
-use Rattle.ps_evaluator.specs.Machine.{Continues, Gives, Resumes, Same, plug, rest, state_of}
+use Rattle.ps_evaluator.specs.InsideMachine.{Continues, Gives, Resumes, Same, plug, rest, state_of}
 use Rattle.ps_evaluator.proofs.Joins.{if_ok_map, plug_push}
 use Rattle.ps_evaluator.proofs.run.turn.Goals as goal
 

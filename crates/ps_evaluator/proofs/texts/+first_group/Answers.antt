@@ -1,6 +1,6 @@
 use Rattle.std.proofs.Common.{◌≡◌, ◌-◌, List, length, take, drop, ◌∙◌, sym}
 use Rattle.ps_kernel.specs.declared.expr.GroupEntry.{GroupEntry}
-use Rattle.ps_evaluator.specs.Lists.{first_with}
+use Rattle.ps_evaluator.specs.InsideLists.{first_with}
 use Rattle.ps_evaluator.proofs.Joins.{if_ok_map}
 use Rattle.ps_evaluator.proofs.Steps.{first_here, first_there, has_first}
 use Rattle.ps_evaluator.proofs.texts.+first_group.Goals as goal

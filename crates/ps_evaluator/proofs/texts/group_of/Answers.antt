@@ -1,7 +1,7 @@
 use Rattle.std.proofs.Common.{◌≡◌, List, ap, ◌∙◌}
 use Rattle.ps_kernel.specs.declared.expr.GroupEntry.{GroupEntry}
 use Rattle.ps_kernel.specs.Texts.{all_groups, group_of}
-use Rattle.ps_evaluator.specs.Lists.{first_with}
+use Rattle.ps_evaluator.specs.InsideLists.{first_with}
 use Rattle.ps_evaluator.proofs.Joins.{if_ok_map}
 use Rattle.ps_evaluator.proofs.Steps.{first_is}
 use Rattle.ps_evaluator.proofs.texts.group_of.Goals as goal

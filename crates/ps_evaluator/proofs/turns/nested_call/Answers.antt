@@ -1,6 +1,6 @@
 use Rattle.std.proofs.Common.{ℕ, subst}
 use Rattle.std.specs.Prelude.{IfOk}
-use Rattle.ps_evaluator.specs.Machine.{Calls}
+use Rattle.ps_evaluator.specs.InsideMachine.{Calls}
 use Rattle.ps_evaluator.proofs.turns.nested_call.Goals as goal
 
 pub returns-in-Some : goal.returns-in-Some

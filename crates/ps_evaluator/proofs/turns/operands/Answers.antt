@@ -1,6 +1,6 @@
 use Rattle.std.proofs.Common.{◌++◌, ◌∷◌, ap, ◌∙◌}
 use Rattle.ps_meaning.specs.Run.{◌>>=◌}
-use Rattle.ps_evaluator.specs.Machine.{values_of, does}
+use Rattle.ps_evaluator.specs.InsideMachine.{values_of, does}
 use Rattle.ps_evaluator.specs.declared.machine.Frame.TheVariants.{Operands}
 use Rattle.ps_evaluator.proofs.Joins.{gather}
 use Rattle.ps_evaluator.proofs.turns.operands.Goals as goal

@@ -2,7 +2,7 @@ use Rattle.std.proofs.Common.{List, subst}
 use Rattle.std.specs.Prelude.{IfOk}
 use Rattle.ps_meaning.specs.declared.values.RunValue.{RunValue}
 use Rattle.ps_evaluator.specs.declared.machine.Job.TheVariants.{Perform}
-use Rattle.ps_evaluator.specs.Machine.{Gathers}
+use Rattle.ps_evaluator.specs.InsideMachine.{Gathers}
 use Rattle.ps_evaluator.proofs.turns.primitive.Goals as goal
 
 pub returns : goal.returns

@@ -1,6 +1,6 @@
 use Rattle.std.proofs.Common.{◌∙◌}
 use Rattle.ps_evaluator.specs.declared.machine.Job.TheVariants.{Enter}
-use Rattle.ps_evaluator.specs.Machine.{Follows, Gathers, Resumes}
+use Rattle.ps_evaluator.specs.InsideMachine.{Follows, Gathers, Resumes}
 use Rattle.ps_evaluator.proofs.Joins.{if_ok_map, rest_on, operator_on, operands_on}
 use Rattle.ps_evaluator.proofs.turns.resume.Goals as goal
 

@@ -1,7 +1,7 @@
 use Rattle.std.proofs.Common.{◌+◌, [], ◌∙◌}
 use Rattle.ps_evaluator.specs.declared.machine.Control.TheVariants.{Work}
 use Rattle.ps_evaluator.specs.declared.machine.Job.TheVariants.{Perform}
-use Rattle.ps_evaluator.specs.Machine.{Calls, Continues, Follows, Gathers}
+use Rattle.ps_evaluator.specs.InsideMachine.{Calls, Continues, Follows, Gathers}
 use Rattle.ps_evaluator.proofs.Joins.{if_ok_map, down_if, down_let, down_set, begin_level, call_level, proper_level, prim_level}
 use Rattle.ps_evaluator.proofs.turns.work.Goals as goal
 

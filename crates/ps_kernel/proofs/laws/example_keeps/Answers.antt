@@ -1,4 +1,4 @@
-use Rattle.ps_kernel.proofs.Example.{of_f, of_g, of_inner}
+use Rattle.ps_kernel.proofs.ExampleByHand.{of_f, of_g, of_inner}
 use Rattle.ps_kernel.proofs.laws.example_keeps.Goals as goal
 
 pub returns : goal.returns

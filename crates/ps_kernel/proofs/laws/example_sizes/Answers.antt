@@ -1,4 +1,4 @@
-use Rattle.ps_kernel.proofs.Example.{depth, count}
+use Rattle.ps_kernel.proofs.ExampleByHand.{depth, count}
 use Rattle.ps_kernel.proofs.laws.example_sizes.Goals as goal
 
 pub returns : goal.returns

@@ -1,4 +1,4 @@
-use Rattle.ps_meaning.proofs.Bounds.{unrolled}
+use Rattle.ps_meaning.proofs.LargerBoundsKeep.{unrolled}
 use Rattle.ps_meaning.proofs.laws.calls_enter_procedures.Goals as goal
 
 pub returns : goal.returns

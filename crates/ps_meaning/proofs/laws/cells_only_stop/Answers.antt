@@ -1,4 +1,4 @@
-use Rattle.ps_meaning.proofs.Roomier.{cells_only_stop, more_cells_keep}
+use Rattle.ps_meaning.proofs.CellsOnlyStopRuns.{cells_only_stop, more_cells_keep}
 use Rattle.ps_meaning.proofs.laws.cells_only_stop.Goals as goal
 
 pub returns : goal.returns

@@ -1,4 +1,4 @@
-use Rattle.ps_meaning.proofs.Bounds.{larger_bound}
+use Rattle.ps_meaning.proofs.LargerBoundsKeep.{larger_bound}
 use Rattle.ps_meaning.proofs.laws.larger_bound_keeps.Goals as goal
 
 pub returns : goal.returns

@@ -1,4 +1,4 @@
-use Rattle.ps_meaning.proofs.Bounds.{larger_budget}
+use Rattle.ps_meaning.proofs.LargerBoundsKeep.{larger_budget}
 use Rattle.ps_meaning.proofs.laws.larger_budget_keeps.Goals as goal
 
 pub returns : goal.returns

@@ -1,4 +1,4 @@
-use Rattle.ps_meaning.proofs.RunOnlyForms.{run_only_at_its_place}
+use Rattle.ps_meaning.proofs.RunOnlyIsTold.{run_only_at_its_place}
 use Rattle.ps_meaning.proofs.laws.run_only_at_its_place.Goals as goal
 
 pub returns : goal.returns

@@ -1,7 +1,7 @@
 use Rattle.std.proofs.Common.{sym, ◌+◌, take, subst, arith, rules}
 use Rattle.ps_base.specs.Names.{AreDistinct}
-use Rattle.ps_resolve.specs.Definitions.{AreParameters}
-use Rattle.ps_resolve.specs.Refusals.{IsNotProgram}
+use Rattle.ps_resolve.specs.InsideDefinitions.{AreParameters}
+use Rattle.ps_resolve.specs.InsideAnswers.{IsNotProgram}
 use Rattle.ps_resolve.proofs.Parameters.{one_parameter, next_parameter, new_parameter}
 use Rattle.ps_resolve.proofs.definition.parameters.Goals as goal
 

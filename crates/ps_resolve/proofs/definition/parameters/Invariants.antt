@@ -1,5 +1,5 @@
 use Rattle.std.proofs.Common.{take}
-use Rattle.ps_resolve.specs.Definitions.{AreParameters}
+use Rattle.ps_resolve.specs.InsideDefinitions.{AreParameters}
 use Rattle.ps_resolve.proofs.definition.parameters.Given as goal
 
 -- the parameters so far

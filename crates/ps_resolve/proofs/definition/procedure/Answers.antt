@@ -1,5 +1,5 @@
 use Rattle.std.proofs.Common.{rules}
-use Rattle.ps_resolve.specs.Values.{scope_of}
+use Rattle.ps_resolve.specs.InsideValues.{scope_of}
 use Rattle.ps_resolve.proofs.Bodies.{refuses_writes, refuses_value, whole_procedure}
 use Rattle.ps_resolve.proofs.definition.procedure.Goals as goal
 

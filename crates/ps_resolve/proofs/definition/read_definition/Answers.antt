@@ -1,7 +1,7 @@
 use Rattle.std.proofs.Common.{rules, subst, sym}
 use Rattle.std.proofs.lemmas.List.{take_rest}
-use Rattle.ps_resolve.specs.Refusals.{IsNotProgram}
-use Rattle.ps_resolve.specs.Definitions.{AreParameters}
+use Rattle.ps_resolve.specs.InsideAnswers.{IsNotProgram}
+use Rattle.ps_resolve.specs.InsideDefinitions.{AreParameters}
 use Rattle.ps_resolve.proofs.Heads.{AreParameters-of_head, head-of_parameters, procedure-of_name}
 use Rattle.ps_resolve.proofs.definition.read_definition.Goals as goal
 

@@ -1,6 +1,6 @@
 use Rattle.std.proofs.Common.{rules, ap, ◌∙◌, sym, Some, arith}
 use Rattle.ps_plain.specs.Forms.{Part, part, conditional_by}
-use Rattle.ps_resolve.specs.Values.{scope_of}
+use Rattle.ps_resolve.specs.InsideValues.{scope_of}
 use Rattle.ps_resolve.proofs.Bodies.{conditional_is}
 use Rattle.ps_resolve.proofs.Options.{one_more}
 use Rattle.ps_resolve.proofs.Refusals.{refuses_all}

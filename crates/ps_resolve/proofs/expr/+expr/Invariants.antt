@@ -1,6 +1,6 @@
 use Rattle.std.proofs.Common.{◌≡◌, map, take, Some}
 use Rattle.ps_plain.specs.Forms.{Part, part, all_some}
-use Rattle.ps_resolve.specs.Values.{scope_of}
+use Rattle.ps_resolve.specs.InsideValues.{scope_of}
 use Rattle.ps_resolve.proofs.expr.+expr.Given as goal
 
 -- what was read so far

@@ -1,6 +1,6 @@
 use Rattle.std.proofs.Common.{sym, subst}
 use Rattle.std.specs.Prelude.{nat_eq}
-use Rattle.ps_resolve.specs.Heads.{IsAdded}
+use Rattle.ps_resolve.specs.InsideHeads.{IsAdded}
 use Rattle.ps_resolve.proofs.FaultTables.{added}
 use Rattle.ps_resolve.proofs.faults.add_new.Goals as goal
 

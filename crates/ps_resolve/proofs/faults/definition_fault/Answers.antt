@@ -1,7 +1,7 @@
 use Rattle.std.proofs.Common.{◌≡◌, None, sym, ap, ◌∙◌, map}
 use Rattle.ps_plain.specs.Forms.{scope_in}
 use Rattle.ps_plain.specs.Faults.{flaws, or_else, body_names}
-use Rattle.ps_resolve.specs.Heads.{arity_at}
+use Rattle.ps_resolve.specs.InsideHeads.{arity_at}
 use Rattle.ps_resolve.proofs.FaultScopes.{same_body}
 use Rattle.ps_resolve.proofs.faults.definition_fault.Goals as goal
 

@@ -1,7 +1,7 @@
 use Rattle.std.proofs.Common.{map, None, Some, sym, ap, ◌∙◌, arith}
 use Rattle.std.specs.Prelude.{if◌then◌else◌}
 use Rattle.ps_plain.specs.Meaning.{start_place}
-use Rattle.ps_resolve.specs.Heads.{head_at}
+use Rattle.ps_resolve.specs.InsideHeads.{head_at}
 use Rattle.ps_resolve.proofs.FaultForms.{length-weights, name_fault, last_fault}
 use Rattle.ps_resolve.proofs.faults.fault.Goals as goal
 

@@ -1,7 +1,7 @@
 use Rattle.std.proofs.Common.{sym, ◌∙◌, map}
 use Rattle.std.specs.List.{list_any}
 use Rattle.ps_plain.specs.Faults.{is_main}
-use Rattle.ps_resolve.specs.Heads.{head_at}
+use Rattle.ps_resolve.specs.InsideHeads.{head_at}
 use Rattle.ps_resolve.proofs.FaultForms.{shape_at, head_of_parts, main_is, main_found, main_passed}
 use Rattle.ps_resolve.proofs.faults.has_main.Goals as goal
 

@@ -1,7 +1,7 @@
 use Rattle.std.proofs.Common.{◌≡◌, map, drop}
 use Rattle.std.specs.List.{list_any}
 use Rattle.ps_plain.specs.Faults.{is_main}
-use Rattle.ps_resolve.specs.Heads.{head_at}
+use Rattle.ps_resolve.specs.InsideHeads.{head_at}
 use Rattle.ps_resolve.proofs.faults.has_main.Given as goal
 
 -- the search of what is left gives the same

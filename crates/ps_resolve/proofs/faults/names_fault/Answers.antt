@@ -1,6 +1,6 @@
 use Rattle.std.proofs.Common.{[], ◌∷◌, length, ap, arith}
 use Rattle.std.proofs.lemmas.List.{length-append}
-use Rattle.ps_resolve.specs.Heads.{head_at, names_walk}
+use Rattle.ps_resolve.specs.InsideHeads.{head_at, names_walk}
 use Rattle.ps_resolve.proofs.FaultForms.{shape_at, head_of_parts, walk_found, walk_passed, walk_ended}
 use Rattle.ps_resolve.proofs.faults.names_fault.Goals as goal
 

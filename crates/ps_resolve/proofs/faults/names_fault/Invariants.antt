@@ -1,6 +1,6 @@
 use Rattle.std.proofs.Common.{◌≡◌, ◌≤◌, List, [], length, drop}
 use Rattle.ps_plain.specs.Forms.{Head}
-use Rattle.ps_resolve.specs.Heads.{Knows, names_walk}
+use Rattle.ps_resolve.specs.InsideHeads.{Knows, names_walk}
 use Rattle.ps_resolve.proofs.faults.names_fault.Given as goal
 
 -- what is left gives the same

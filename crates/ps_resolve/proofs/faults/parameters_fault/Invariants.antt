@@ -1,6 +1,6 @@
 use Rattle.std.proofs.Common.{◌≡◌, ℕ, ◌≤◌, List, [], map, length, take, drop, Some}
 use Rattle.ps_plain.specs.Faults.{flaws, parameters_names}
-use Rattle.ps_resolve.specs.Heads.{words_of}
+use Rattle.ps_resolve.specs.InsideHeads.{words_of}
 use Rattle.ps_resolve.proofs.faults.parameters_fault.Given as goal
 
 -- the search of what is left gives the same, and the table has the parameters so far

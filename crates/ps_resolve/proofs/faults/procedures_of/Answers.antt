@@ -1,5 +1,5 @@
 use Rattle.std.proofs.Common.{map, take, subst, arith}
-use Rattle.ps_resolve.specs.Heads.{Knows, head_at}
+use Rattle.ps_resolve.specs.InsideHeads.{Knows, head_at}
 use Rattle.ps_resolve.proofs.FaultForms.{shape_at, head_of_parts, heads_more, reads_more, no_heads}
 use Rattle.ps_resolve.proofs.faults.procedures_of.Goals as goal
 

@@ -1,5 +1,5 @@
 use Rattle.std.proofs.Common.{◌≤◌, map, length, take, drop}
-use Rattle.ps_resolve.specs.Heads.{HaveHeads, Knows, head_at}
+use Rattle.ps_resolve.specs.InsideHeads.{HaveHeads, Knows, head_at}
 use Rattle.ps_resolve.proofs.faults.procedures_of.Given as goal
 
 -- the table knows the procedures so far, and the forms so far have their heads

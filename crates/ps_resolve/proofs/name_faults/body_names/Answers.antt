@@ -1,6 +1,6 @@
 use Rattle.std.proofs.Common.{sym, ap, ◌∙◌}
 use Rattle.ps_plain.specs.Faults.{flaws, or_else}
-use Rattle.ps_resolve.specs.NameTables.{scope_of}
+use Rattle.ps_resolve.specs.InsideNameTables.{scope_of}
 use Rattle.ps_resolve.proofs.FaultBodies.{body_names_are}
 use Rattle.ps_resolve.proofs.name_faults.body_names.Goals as goal
 

@@ -1,6 +1,6 @@
 use Rattle.std.proofs.Common.{sym, ap, ◌∙◌}
 use Rattle.ps_plain.specs.Faults.{Flaws}
-use Rattle.ps_resolve.specs.NameTables.{scope_of}
+use Rattle.ps_resolve.specs.InsideNameTables.{scope_of}
 use Rattle.ps_resolve.proofs.name_faults.write_names.Goals as goal
 
 pub returns-in-None : goal.returns-in-None

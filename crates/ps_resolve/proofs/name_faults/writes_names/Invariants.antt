@@ -1,6 +1,6 @@
 use Rattle.std.proofs.Common.{◌≡◌, map, drop}
 use Rattle.ps_plain.specs.Faults.{flaws}
-use Rattle.ps_resolve.specs.NameTables.{scope_of, writes_names}
+use Rattle.ps_resolve.specs.InsideNameTables.{scope_of, writes_names}
 use Rattle.ps_resolve.proofs.name_faults.writes_names.Given as goal
 
 -- the search of what is left gives the same

@@ -1,6 +1,6 @@
 use Rattle.std.proofs.Common.{◌≡◌, take}
 use Rattle.ps_plain.specs.Forms.{arities_in}
-use Rattle.ps_resolve.specs.Definitions.{heads_in}
+use Rattle.ps_resolve.specs.InsideDefinitions.{heads_in}
 use Rattle.ps_resolve.proofs.program.arities.Given as goal
 
 -- the numbers so far

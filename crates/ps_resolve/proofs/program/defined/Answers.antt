@@ -1,6 +1,6 @@
 use Rattle.std.proofs.Common.{rules, subst, sym}
 use Rattle.ps_base.specs.Names.{IsNew}
-use Rattle.ps_resolve.specs.Refusals.{IsNotProgram}
+use Rattle.ps_resolve.specs.InsideAnswers.{IsNotProgram}
 use Rattle.ps_resolve.proofs.Definitions.{new_name}
 use Rattle.ps_resolve.proofs.program.defined.Goals as goal
 

@@ -1,7 +1,7 @@
 use Rattle.std.proofs.Common.{◌≡◌, take}
 use Rattle.ps_base.specs.Names.{AreDistinct}
 use Rattle.ps_plain.specs.Forms.{names_in}
-use Rattle.ps_resolve.specs.Definitions.{heads_in}
+use Rattle.ps_resolve.specs.InsideDefinitions.{heads_in}
 use Rattle.ps_resolve.proofs.program.defined.Given as goal
 
 -- the names so far

@@ -1,8 +1,8 @@
 use Rattle.std.proofs.Common.{rules, ℕ, List, ◌∷◌, [], ◌++◌, ◌≡◌, sym, subst}
 use Rattle.ps_datum.specs.declared.datum.Datum.{Datum}
 use Rattle.ps_resolve.specs.declared.definition.Definition.{Definition}
-use Rattle.ps_resolve.specs.Refusals.{IsNotProgram}
-use Rattle.ps_resolve.specs.Definitions.{AreDefinitions, IsDefinition}
+use Rattle.ps_resolve.specs.InsideAnswers.{IsNotProgram}
+use Rattle.ps_resolve.specs.InsideDefinitions.{AreDefinitions, IsDefinition}
 use Rattle.ps_resolve.proofs.Definitions.{good-parts}
 use Rattle.ps_resolve.proofs.program.in_order.Goals as goal
 

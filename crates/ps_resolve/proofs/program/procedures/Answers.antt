@@ -2,8 +2,8 @@ use Rattle.std.proofs.Common.{rules, ◌∙◌, sym, ap, subst, Some, map}
 use Rattle.std.proofs.lemmas.List.{take_all}
 use Rattle.ps_base.specs.Names.{AreDistinct}
 use Rattle.ps_plain.specs.Forms.{all_some}
-use Rattle.ps_resolve.specs.Refusals.{IsNotProgram, RefusesBy}
-use Rattle.ps_resolve.specs.Definitions.{heads_in, procedure_among}
+use Rattle.ps_resolve.specs.InsideAnswers.{IsNotProgram, RefusesBy}
+use Rattle.ps_resolve.specs.InsideDefinitions.{heads_in, procedure_among}
 use Rattle.ps_resolve.proofs.Options.{more}
 use Rattle.ps_resolve.proofs.Refusals.{refuses_list}
 use Rattle.ps_resolve.proofs.Definitions.{among}

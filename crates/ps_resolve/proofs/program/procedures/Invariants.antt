@@ -1,6 +1,6 @@
 use Rattle.std.proofs.Common.{◌≡◌, map, take, Some}
 use Rattle.ps_plain.specs.Forms.{all_some}
-use Rattle.ps_resolve.specs.Definitions.{heads_in, procedure_among}
+use Rattle.ps_resolve.specs.InsideDefinitions.{heads_in, procedure_among}
 use Rattle.ps_resolve.proofs.program.procedures.Given as goal
 
 -- the procedures so far

@@ -1,8 +1,8 @@
 use Rattle.std.proofs.Common.{rules, ap, length, arith, subst}
 use Rattle.ps_plain.specs.Forms.{IsProgram}
 use Rattle.ps_plain.proofs.Programs.{program_valid, program_small}
-use Rattle.ps_resolve.specs.Refusals.{IsNotProgram}
-use Rattle.ps_resolve.specs.Definitions.{AreProcedures}
+use Rattle.ps_resolve.specs.InsideAnswers.{IsNotProgram}
+use Rattle.ps_resolve.specs.InsideDefinitions.{AreProcedures}
 use Rattle.ps_resolve.proofs.Programs.{good, few-definitions, made, procedures-of_program}
 use Rattle.ps_resolve.proofs.program.program_of.Goals as goal
 use Rattle.ps_resolve.proofs.program.program_of.Goals.{In_ok-procedures}

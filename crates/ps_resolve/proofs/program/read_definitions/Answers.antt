@@ -1,7 +1,7 @@
 use Rattle.std.proofs.Common.{rules, ◌++◌, ◌∷◌, [], ◌+◌, take, subst, sym, ap, ◌∙◌, append_assoc}
 use Rattle.std.proofs.lemmas.List.{take_more}
-use Rattle.ps_resolve.specs.Refusals.{IsNotProgram}
-use Rattle.ps_resolve.specs.Definitions.{AreDefinitions}
+use Rattle.ps_resolve.specs.InsideAnswers.{IsNotProgram}
+use Rattle.ps_resolve.specs.InsideDefinitions.{AreDefinitions}
 use Rattle.ps_resolve.proofs.Definitions.{one_definition, good-at}
 use Rattle.ps_resolve.proofs.program.read_definitions.Goals as goal
 

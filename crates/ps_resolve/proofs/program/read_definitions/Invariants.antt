@@ -1,6 +1,6 @@
 use Rattle.std.proofs.Common.{List, ◌++◌, take}
 use Rattle.ps_datum.specs.declared.datum.Datum.{Datum}
-use Rattle.ps_resolve.specs.Definitions.{AreDefinitions}
+use Rattle.ps_resolve.specs.InsideDefinitions.{AreDefinitions}
 use Rattle.ps_resolve.proofs.program.read_definitions.Given as goal
 
 -- the definitions so far

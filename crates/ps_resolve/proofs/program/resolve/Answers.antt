@@ -1,5 +1,5 @@
 use Rattle.std.proofs.Common.{sym, subst, ◌∙◌}
-use Rattle.ps_resolve.specs.Refusals.{IsNotProgram}
+use Rattle.ps_resolve.specs.InsideAnswers.{IsNotProgram}
 use Rattle.ps_resolve.proofs.program.resolve.Goals as goal
 
 -- data without a fault are a program

@@ -1,6 +1,6 @@
 use Rattle.std.proofs.Common.{◌≡◌, map, drop}
 use Rattle.ps_plain.specs.Faults.{flaws}
-use Rattle.ps_resolve.specs.Kinds.{name_shapes}
+use Rattle.ps_resolve.specs.InsideKinds.{name_shapes}
 use Rattle.ps_resolve.proofs.shapes.name_shapes.Given as goal
 
 -- the search of what is left gives the same

@@ -1,6 +1,6 @@
 use Rattle.std.proofs.Common.{◌≡◌, map, drop}
 use Rattle.ps_plain.specs.Faults.{flaws}
-use Rattle.ps_resolve.specs.Kinds.{write_shapes}
+use Rattle.ps_resolve.specs.InsideKinds.{write_shapes}
 use Rattle.ps_resolve.proofs.shapes.write_shapes.Given as goal
 
 -- the search of what is left gives the same

@@ -1,7 +1,7 @@
 use Rattle.std.proofs.Common.{◌≡◌, map, drop}
 use Rattle.std.specs.List.{fold}
-use Rattle.ps_kernel.specs.Steps.{opens}
-use Rattle.ps_kernel.specs.Walking.{step}
+use Rattle.ps_kernel.specs.InsideSteps.{opens}
+use Rattle.ps_kernel.specs.InsideWalks.{step}
 use Rattle.ps_kernel.proofs.validity.passing.open_all.Given as goal
 
 -- the walk over the rest ends as that over all

@@ -3,9 +3,9 @@ use Rattle.std.specs.Prelude.{OnOk, slice_get}
 use Rattle.std.specs.List.{fold}
 use Rattle.ps_kernel.specs.declared.expr.Expr.{out-Expr}
 use Rattle.ps_kernel.specs.declared.validity.walk.Walk.{Walk}
-use Rattle.ps_kernel.specs.Walking.{step}
-use Rattle.ps_kernel.specs.Steps.{steps, kind_steps, body_steps}
-use Rattle.ps_kernel.proofs.Reading.{stays, of_no_levels, of_some_levels, of_constant, of_local, of_global, of_lambda, of_if, of_let, of_letrec, of_begin, of_set, of_call, of_proper, of_primitive}
+use Rattle.ps_kernel.specs.InsideWalks.{step}
+use Rattle.ps_kernel.specs.InsideSteps.{steps, kind_steps, body_steps}
+use Rattle.ps_kernel.proofs.StepsOfANode.{stays, of_no_levels, of_some_levels, of_constant, of_local, of_global, of_lambda, of_if, of_let, of_letrec, of_begin, of_set, of_call, of_proper, of_primitive}
 use Rattle.ps_kernel.proofs.validity.walk.+walking.Goals as goal
 
 pub walk_expr-returns-then-not-walk : goal.walk_expr-returns-then-not-walk

@@ -1,7 +1,7 @@
 use Rattle.std.proofs.Common.{◌≡◌, ◌+◌, ◌*◌, drop}
 use Rattle.std.specs.List.{fold}
-use Rattle.ps_kernel.specs.Steps.{part_steps, sequence_steps, group_steps, steps}
-use Rattle.ps_kernel.specs.Walking.{step}
+use Rattle.ps_kernel.specs.InsideSteps.{part_steps, sequence_steps, group_steps, steps}
+use Rattle.ps_kernel.specs.InsideWalks.{step}
 use Rattle.ps_kernel.proofs.validity.walk.+walking.Given as goal
 
 abbrev pub decreases-walk_expr : goal.decreases-walk_expr

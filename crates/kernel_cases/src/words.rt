@@ -1,0 +1,173 @@
+//! The words that the cases are written with.
+
+use crate::data::text_of;
+use crate::trouble::Trouble;
+use ps_base::{Names, Prim};
+use ps_datum::{Datum, DatumKind};
+
+/// What an expression begins with.
+#[derive(Clone, Copy, Debug, PartialEq, Eq)]
+pub enum Head {
+    Unit,
+    Null,
+    Local,
+    Global,
+    Lambda,
+    Quoted,
+    If,
+    Let,
+    Letrec,
+    Begin,
+    Set,
+    Call,
+    Proper,
+    Maker,
+    Predicate,
+    Accessor,
+    Modifier,
+    Named,
+    At,
+    Deep,
+    Wide,
+    Prim(Prim),
+}
+
+/// What a part of a case begins with.
+#[derive(Clone, Copy, Debug, PartialEq, Eq)]
+pub enum Section {
+    Definitions,
+    Lambda,
+    Literal,
+    DeepLiteral,
+    Kind,
+    Define,
+    Do,
+    Main,
+    Source,
+    Globals,
+    Cells,
+    Bytes,
+    Input,
+    Grants,
+    Calls,
+    Turns,
+}
+
+/// What a type begins with.
+#[derive(Clone, Copy, Debug, PartialEq, Eq)]
+pub enum TypeWord {
+    Integer,
+    Char,
+    Unit,
+    Vector,
+    Tuple,
+    Proc,
+    Var,
+    Deep,
+}
+
+/// What a case begins with.
+#[derive(Clone, Copy, Debug, PartialEq, Eq)]
+pub enum CaseWord {
+    Base,
+    Valid,
+    Run,
+    Resolve,
+}
+
+pub const HEADS: &[(&str, Head)] = &[
+    ("unit", Head::Unit),
+    ("null", Head::Null),
+    ("local", Head::Local),
+    ("global", Head::Global),
+    ("lambda", Head::Lambda),
+    ("quoted", Head::Quoted),
+    ("if", Head::If),
+    ("let", Head::Let),
+    ("letrec", Head::Letrec),
+    ("begin", Head::Begin),
+    ("set!", Head::Set),
+    ("call", Head::Call),
+    ("proper", Head::Proper),
+    ("maker", Head::Maker),
+    ("predicate", Head::Predicate),
+    ("accessor", Head::Accessor),
+    ("modifier", Head::Modifier),
+    ("named", Head::Named),
+    ("at", Head::At),
+    ("deep", Head::Deep),
+    ("wide", Head::Wide),
+    ("+", Head::Prim(Prim::Add)),
+    ("-", Head::Prim(Prim::Subtract)),
+    ("*", Head::Prim(Prim::Multiply)),
+    ("=", Head::Prim(Prim::Equal)),
+    ("<", Head::Prim(Prim::Less)),
+    ("not", Head::Prim(Prim::Not)),
+    ("string-length", Head::Prim(Prim::StringLength)),
+    ("make-vector", Head::Prim(Prim::MakeVector)),
+    ("vector-ref", Head::Prim(Prim::VectorRef)),
+    ("vector-length", Head::Prim(Prim::VectorLength)),
+    ("read-byte", Head::Prim(Prim::ReadByte)),
+    ("write-byte", Head::Prim(Prim::WriteByte)),
+    ("null-address?", Head::Prim(Prim::IsNullAddress)),
+    ("allocate-memory", Head::Prim(Prim::AllocateMemory)),
+    ("deallocate-memory", Head::Prim(Prim::DeallocateMemory)),
+    ("unsigned-byte-ref", Head::Prim(Prim::UnsignedByteRef)),
+    ("unsigned-byte-set!", Head::Prim(Prim::UnsignedByteSet)),
+    ("word-ref", Head::Prim(Prim::WordRef)),
+    ("word-set!", Head::Prim(Prim::WordSet)),
+];
+
+pub const SECTIONS: &[(&str, Section)] = &[
+    ("definitions", Section::Definitions),
+    ("lambda", Section::Lambda),
+    ("literal", Section::Literal),
+    ("deep-literal", Section::DeepLiteral),
+    ("kind", Section::Kind),
+    ("define", Section::Define),
+    ("do", Section::Do),
+    ("main", Section::Main),
+    ("source", Section::Source),
+    ("globals", Section::Globals),
+    ("cells", Section::Cells),
+    ("bytes", Section::Bytes),
+    ("input", Section::Input),
+    ("grants", Section::Grants),
+    ("calls", Section::Calls),
+    ("turns", Section::Turns),
+];
+
+pub const TYPES: &[(&str, TypeWord)] = &[
+    ("integer", TypeWord::Integer),
+    ("char", TypeWord::Char),
+    ("unit", TypeWord::Unit),
+    ("vector", TypeWord::Vector),
+    ("tuple", TypeWord::Tuple),
+    ("proc", TypeWord::Proc),
+    ("var", TypeWord::Var),
+    ("deep", TypeWord::Deep),
+];
+
+pub const CASES: &[(&str, CaseWord)] = &[
+    ("base", CaseWord::Base),
+    ("valid", CaseWord::Valid),
+    ("run", CaseWord::Run),
+    ("resolve", CaseWord::Resolve),
+];
+
+/// What a table says of the word that a symbol is.
+pub fn meaning_of<T: Copy>(
+    table: &[(&str, T)],
+    names: &Names,
+    symbol: &Datum,
+) -> Result<T, Trouble> {
+    if let DatumKind::Symbol(name) = &symbol.kind {
+        let word = text_of(names, *name);
+        for (text, meaning) in table {
+            if text.as_bytes() == word {
+                return Ok(*meaning);
+            }
+        }
+    }
+    Err(Trouble::Unread(symbol.place))
+}
