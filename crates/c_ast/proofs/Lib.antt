@@ -1,6 +1,6 @@
 -- The lemmas of this crate.
-mod Numbers
-mod Atoms
-mod Lines
-mod Sizes
-pub mod Units
+mod NumbersReadBack
+mod AtomsReadBack
+mod LinesReadBack
+mod NumbersFit
+pub mod OneUnit

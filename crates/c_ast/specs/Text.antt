@@ -48,7 +48,8 @@ arguments_text (k ∷ ks) = codes "v" & decimal k & each next_argument 0 ks
 -- a statement's line, without its end
 unfoldable pub statement_text : Statement → List ℕ
 statement_text (statements.Move k a) = codes "  v" & decimal k & codes " = " & atom_text a & codes ";"
-statement_text (statements.Operation k a o b) = codes "  v" & decimal k & codes " = " & atom_text a & codes " " & operator_text o & codes " " & atom_text b & codes ";"
+statement_text (statements.Operation k a o b) =
+    codes "  v" & decimal k & codes " = " & atom_text a & codes " " & operator_text o & codes " " & atom_text b & codes ";"
 statement_text (statements.Read k) = codes "  v" & decimal k & codes " = ps_read();"
 statement_text (statements.Write k a) = codes "  v" & decimal k & codes " = ps_write(" & atom_text a & codes ");"
 statement_text (statements.Call k f vs) = codes "  v" & decimal k & codes " = ps_f" & decimal f & codes "(" & arguments_text vs & codes ");"
@@ -71,7 +72,8 @@ parameters_text (suc n) = codes "int64_t v0" & next_parameters 1 n
 unfoldable pub head_text : ℕ → ℕ → List ℕ
 head_text n parameters = codes "static int64_t ps_f" & decimal n & codes "(" & parameters_text parameters & codes ")"
 
--- The lines after the prelude: a function's declaration, the head of its definition, a variable, a statement, the end of the definition, and the C program's own main.
+-- The lines after the prelude: a function's declaration, the head of its definition, a variable, a statement, the end of the
+-- definition, and the C program's own main.
 pub data Line : Type 0 where
   Announces : (function parameters : ℕ) → Line
   Opens : (function parameters : ℕ) → Line

@@ -27,7 +27,8 @@ IsStatement d (statements.Move k a) = (k < d.variables) × IsAtom d.variables a
 IsStatement d (statements.Operation k a o b) = (k < d.variables) × IsAtom d.variables a × IsAtom d.variables b
 IsStatement d (statements.Read k) = k < d.variables
 IsStatement d (statements.Write k a) = (k < d.variables) × IsAtom d.variables a
-IsStatement d (statements.Call k f vs) = (k < d.variables) × AllByRecursion (λ v. v < d.variables) vs × (slice_get d.functions f ≡ Some (length vs))
+IsStatement d (statements.Call k f vs) =
+    (k < d.variables) × AllByRecursion (λ v. v < d.variables) vs × (slice_get d.functions f ≡ Some (length vs))
 IsStatement d (statements.IfGoto a m) = IsAtom d.variables a × (m < d.labels)
 IsStatement d (statements.Goto m) = m < d.labels
 IsStatement d (statements.Label m) = m < d.labels

@@ -1,4 +1,6 @@
-//! The subset of C99 that the compiler writes: its trees, when a unit is well formed, and the grammar of its text.
+//! The C texts that the compiler writes: their trees, of which `CUnit` is the whole text, when a unit is well formed, and the
+//! grammar of its bytes. No call computes anything here; `text_has_one_unit` is the grammar's law. It serves the definitions of
+//! `specs/WellFormed.antt` and `specs/Text.antt`.
 #![tactic(auto)]
 
 mod laws;

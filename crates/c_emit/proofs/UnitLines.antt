@@ -1,4 +1,5 @@
 -- The text of lines is the lines' texts, one after another.
+-- For: emit
 use Rattle.std.proofs.Common.{◌≡◌, ℕ, suc, ◌+◌, ◌-◌, ◌<◌, List, [], ◌∷◌, ◌++◌, refl, sym, ap, ◌∙◌, append_assoc, arith}
 use Rattle.std.specs.Prelude.{codes}
 use Rattle.ps_base.specs.Texts.{◌&◌, each}

@@ -10,7 +10,7 @@ ghost use Rattle.c_ast.specs.declared.unit.Atom.TheVariants as atoms;
 ghost use Rattle.c_ast.specs.declared.unit.Statement.TheVariants as statements;
 ghost use Rattle.c_ast.specs.WellFormed.{IsWellFormed};
 ghost use Rattle.c_meaning.specs.Machine.{CRun};
-ghost use Rattle.c_emit.specs.Code.{operator_of, comparison_of, coded, operands_size, operands_labels, operands_code, operands_places, writes_size, writes_labels, function_of, unit_of};
+ghost use Rattle.c_emit.specs.InsideCode.{operator_of, comparison_of, coded, operands_size, operands_labels, operands_code, operands_places, writes_size, writes_labels, function_of, unit_of};
 
 use c_ast::{Atom, BinaryOperator, CFunction, CUnit, Statement};
 use ps_base::{Items, NoMemory};

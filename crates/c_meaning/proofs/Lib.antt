@@ -1,4 +1,4 @@
 -- The lemmas of this crate.
-pub mod Machines
-mod Frames
-mod Stepping
+pub mod LargerBoundKeeps
+mod FramesFollow
+mod StepsAreTheMachines

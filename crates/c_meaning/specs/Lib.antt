@@ -1,4 +1,5 @@
 pub mod Machine
 pub mod Stack
 pub mod Steps
+pub mod InsideSteps
 pub mod Laws

@@ -1,4 +1,5 @@
--- What a unit does: a machine that performs one statement a step (C99 5.1.2.3, 6.5.2.2 and 6.8 in this subset). What C99 leaves undefined, it is stuck at.
+-- What a unit does: a machine that performs one statement a step (C99 5.1.2.3, 6.5.2.2 and 6.8 in this subset). What C99 leaves
+-- undefined, it is stuck at.
 use Rattle.std.specs.Prelude.{ℕ, ℤ, pos, negsuc, ◌+◌, ◌+ℤ◌, ◌-ℤ◌, ◌*ℤ◌, int_lt, nat_eq, Bool, false, if◌then◌else◌, List, [], ◌∷◌, ◌++◌, length, map, Option, Some, None, slice_index_or, slice_get, slice_set, replicate}
 use Rattle.std.specs.Ordering.{int_eq}
 use Rattle.byte_store.specs.declared.event.Event.{Event}
@@ -30,7 +31,8 @@ pub record Caller : Type 0 where
   pub left : List Statement
   pub target : ℕ
 
--- The frame that runs: its function, its variables, and the statements that are left. The frames that wait, the last one first. The world and the operations so far.
+-- The frame that runs: its function, its variables, and the statements that are left. The frames that wait, the last one first.
+-- The world and the operations so far.
 pub record State : Type 0 where
   pub function : ℕ
   pub locals : Locals
@@ -112,7 +114,12 @@ branch body s left n i = if is_zero i then Goes (record s { left = left }) else 
 abbrev pub read : State → List Statement → ℕ → Move State
 read s left k =
     let byte = next_byte s.world.input in
-    Goes (record s { locals = slice_set s.locals k (Some byte); left = left; world = record s.world { input = rest_of s.world.input }; events = s.events ++ Input byte ∷ [] })
+    Goes (record s {
+      locals = slice_set s.locals k (Some byte);
+      left = left;
+      world = record s.world { input = rest_of s.world.input };
+      events = s.events ++ Input byte ∷ [];
+    })
 
 -- a byte is written, and the variable k is 0
 abbrev pub write : State → List Statement → ℕ → ℤ → Move State
@@ -141,9 +148,11 @@ leave s (c ∷ cs) i = Goes (record s { function = c.function; locals = slice_se
 abbrev pub perform : CUnit → State → Statement → List Statement → Move State
 perform u s (statements.Move k a) left = with_value Unset (atom_value s.locals a) (λ i. assign s left k i)
 perform u s (statements.Operation k a o b) left =
-    with_value Unset (atom_value s.locals a) (λ i. with_value Unset (atom_value s.locals b) (λ j. with_value Overflow (fit (result_of o i j)) (λ n. assign s left k n)))
+    with_value Unset (atom_value s.locals a) (λ i. with_value Unset (atom_value s.locals b) (λ j.
+    with_value Overflow (fit (result_of o i j)) (λ n. assign s left k n)))
 perform u s (statements.Read k) left = read s left k
-perform u s (statements.Write k a) left = with_value Unset (atom_value s.locals a) (λ i. with_value Byte (byte_of i) (λ b. write s left k b))
+perform u s (statements.Write k a) left =
+    with_value Unset (atom_value s.locals a) (λ i. with_value Byte (byte_of i) (λ b. write s left k b))
 perform u s (statements.Call k n ks) left = with_value Unset (values_of s.locals ks) (λ vs. enter s left k n vs (slice_get u.functions n))
 perform u s (statements.IfGoto a n) left = with_value Unset (atom_value s.locals a) (λ i. branch (body_of u s.function) s left n i)
 perform u s (statements.Goto n) left = jump s (after_label n (body_of u s.function))
@@ -164,7 +173,14 @@ locals_of (Some f) = f.locals
 
 -- the state before the first statement of function 0, where no variable is assigned
 abbrev pub begin : CUnit → Surroundings → State
-begin u w = record { function = 0; locals = unset (locals_of (slice_get u.functions 0)); left = body_of u 0; callers = []; world = w; events = [] }
+begin u w = record {
+  function = 0;
+  locals = unset (locals_of (slice_get u.functions 0));
+  left = body_of u 0;
+  callers = [];
+  world = w;
+  events = [];
+}
 
 -- the run of a unit in a world, where the bound is how many statements may be performed
 abbrev pub CRun : CUnit → Surroundings → Outcomes

@@ -1,5 +1,5 @@
 -- What a run by code has to do with the machine: the code keeps, for each frame, the place of the next statement.
-use Rattle.std.specs.Prelude.{◌≡◌, ℕ, ℤ, ◌+◌, ◌<◌, List, [], ◌∷◌, ◌++◌, drop, length, slice_get, Some, ◌⊎◌}
+use Rattle.std.specs.Prelude.{◌≡◌, ℕ, ◌<◌, List, [], ◌∷◌, ◌++◌, drop, length, slice_get, Some, ◌⊎◌}
 use Rattle.std.specs.List.{AllByRecursion}
 use Rattle.byte_store.specs.declared.event.Event.{Event}
 use Rattle.byte_store.specs.Outcome.{Returned, Stuck}
@@ -7,11 +7,8 @@ use Rattle.byte_store.specs.Machine.{Move, Goes, Ends}
 use Rattle.byte_store.specs.Worlds.{Surroundings}
 use Rattle.c_ast.specs.declared.unit.CUnit.{CUnit}
 use Rattle.c_ast.specs.declared.unit.CFunction.{CFunction}
-use Rattle.c_ast.specs.WellFormed.{IsStatement, variables_of, IsWellFormed}
-use Rattle.c_ast.specs.declared.unit.Atom.{Atom}
-use Rattle.c_ast.specs.declared.unit.Statement.{Statement}
-use Rattle.c_ast.specs.declared.unit.Statement.TheVariants as statements
-use Rattle.c_meaning.specs.Machine.{Locals, Caller, State, after_label, body_of, jump, leave, perform, unset, locals_of, machine}
+use Rattle.c_ast.specs.WellFormed.{variables_of, IsWellFormed}
+use Rattle.c_meaning.specs.Machine.{Locals, Caller, State, body_of, unset, locals_of, machine}
 use Rattle.c_meaning.specs.declared.stack.Waiting.{Waiting}
 use Rattle.c_meaning.specs.Stack.{Stack}
 use Rattle.c_meaning.specs.declared.machine.StepOut.{StepOut}
@@ -30,7 +27,14 @@ callers_of u [] = []
 callers_of u (c ∷ cs) = callers_of u cs ++ caller_of u c ∷ []
 
 abbrev pub machine_state : CUnit → Stack → Surroundings → List Event → State
-machine_state u s w e = record { function = s.function; locals = s.locals; left = drop s.next (body_of u s.function); callers = callers_of u s.callers; world = w; events = e }
+machine_state u s w e = record {
+  function = s.function;
+  locals = s.locals;
+  left = drop s.next (body_of u s.function);
+  callers = callers_of u s.callers;
+  world = w;
+  events = e;
+}
 
 -- the frame has the variables of a function of the unit, and goes on at one of its statements
 pub record StandsAt (u : CUnit) (function : ℕ) (locals : Locals) (next : ℕ) : Type 0 where
@@ -70,45 +74,3 @@ IsMove outs.NoMemory move u s s' w w' e e' = Takes move (machine_state u s w e) 
 -- the code's step is the machine's
 abbrev pub Steps : StepOut → CUnit → Stack → Stack → Surroundings → Surroundings → List Event → List Event → Type 0
 Steps out u s s' w w' e e' = IsMove out ((machine u).step (machine_state u s w e)) u s s' w w' e e'
-
--- ---- the parts of a step by code
-
--- a frame that waits has the variable to which the value goes
-abbrev pub HasTarget : Waiting → Type 0
-HasTarget c = c.target < length c.locals
-
--- the statement is the next one of the function that runs
-abbrev pub IsNext : CUnit → Stack → Statement → Type 0
-IsNext u s t = slice_get (body_of u s.function) s.next ≡ Some t
-
--- the statement names variables of the frame alone
-abbrev pub NamesOwn : Locals → Statement → Type 0
-NamesOwn locals t = (labels : ℕ) × (functions : List ℕ) × IsStatement (record { variables = length locals; labels = labels; functions = functions }) t
-
--- the code's performance of a statement is the machine's
-abbrev pub Performs : StepOut → CUnit → Statement → Stack → Stack → Surroundings → Surroundings → List Event → List Event → Type 0
-Performs out u t s s' w w' e e' = IsMove out (perform u (machine_state u s w e) t (drop (s.next + 1) (body_of u s.function))) u s s' w w' e e'
-
--- the same of a statement that neither reads nor writes a byte
-abbrev pub PerformsQuietly : StepOut → CUnit → Statement → Stack → Stack → Type 0
-PerformsQuietly out u t s s' = (w : Surroundings) (e : List Event) → Performs out u t s s' w w e e
-
--- the same of one that names nothing of its unit
-abbrev pub PerformsAnywhere : StepOut → Statement → Stack → Stack → Type 0
-PerformsAnywhere out t s s' = (u : CUnit) → PerformsQuietly out u t s s'
-
--- the same of one that reads a byte, in each unit
-abbrev pub Reads : StepOut → ℕ → Stack → Stack → Surroundings → Surroundings → List Event → List Event → Type 0
-Reads out k s s' w w' e e' = (u : CUnit) → Performs out u (statements.Read k) s s' w w' e e'
-
--- the same of one that writes a byte, in each unit and world
-abbrev pub Writes : StepOut → ℕ → Atom → Stack → Stack → List Event → List Event → Type 0
-Writes out k a s s' e e' = (u : CUnit) (w : Surroundings) → Performs out u (statements.Write k a) s s' w w e e'
-
--- a jump by code to a label of the function that runs
-abbrev pub Jumps : StepOut → CUnit → ℕ → Stack → Stack → Type 0
-Jumps out u n s s' = (w : Surroundings) (e : List Event) → IsMove out (jump (machine_state u s w e) (after_label n (body_of u s.function))) u s s' w w e e
-
--- the end of a call by code, in each unit
-abbrev pub Leaves : StepOut → ℤ → Stack → Stack → Type 0
-Leaves out i s s' = (u : CUnit) (w : Surroundings) (e : List Event) → IsMove out (leave (machine_state u s w e) (callers_of u s.callers) i) u s s' w w e e

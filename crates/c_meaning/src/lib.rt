@@ -1,4 +1,6 @@
-//! What a text of the C subset does: the machine that runs a unit.
+//! From a unit of the C subset and a world to what its text does there, one statement at a time, by `CState::start` and `step`.
+//! It serves the definition of the machine, `specs/Machine.antt`, and its law on the bound; `specs/Steps.antt` says what a step
+//! by code is.
 #![tactic(auto)]
 
 mod laws;

@@ -3,7 +3,8 @@
 ghost use Rattle.std.specs.Prelude.{◌≡◌, ◌+◌, ◌<◌, ◌^◌, length, slice_get, Some, IfOk};
 ghost use Rattle.std.specs.List.{AllByRecursion};
 ghost use Rattle.c_ast.specs.WellFormed.{IsWellFormed};
-ghost use Rattle.c_meaning.specs.Steps.{Stands, starts_at, HasTarget, NamesOwn, Performs, Steps};
+ghost use Rattle.c_meaning.specs.Steps.{Stands, starts_at, Steps};
+ghost use Rattle.c_meaning.specs.InsideSteps.{HasTarget, NamesOwn, Performs};
 
 use crate::perform::{
     body, perform_call, perform_goto, perform_if_goto, perform_label, perform_move,
@@ -73,6 +74,13 @@ impl CState {
             next: 0,
             callers: Vec::new(alloc),
         })
+    }
+
+    /// How many frames wait for the end of a call.
+    pub fn waiting(&self) -> usize
+        ensures { result ≡ length self.now.callers }
+    {
+        self.callers.len()
     }
 }
 

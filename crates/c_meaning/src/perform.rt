@@ -3,7 +3,7 @@
 ghost use Rattle.std.specs.Prelude.{◌≡◌, ◌+◌, ◌<◌, ◌^◌, [], ◌∷◌, ◌++◌, length, drop, MatchOption, MatchResult, Some, None, slice_set};
 ghost use Rattle.std.specs.List.{AllByRecursion};
 ghost use Rattle.c_meaning.specs.Machine.{after_label, is_label, body_of};
-ghost use Rattle.c_meaning.specs.Steps.{HasTarget, PerformsAnywhere, PerformsQuietly, Reads, Writes, Jumps, Leaves};
+ghost use Rattle.c_meaning.specs.InsideSteps.{HasTarget, PerformsAnywhere, PerformsQuietly, Reads, Writes, Jumps, Leaves};
 
 use crate::machine::{CState, StepOut};
 use crate::stack::Waiting;

@@ -1,24 +1,16 @@
 //! `psc`: a compiler from Pre-Scheme to C.
 //!
 //! `psc compile` reads a text from standard input and writes its translation to standard output. A refused run writes one
-//! line to standard error and ends with the fault's number as its status.
+//! line to standard error and ends with the fault's number as its status. This crate takes the words from the environment and
+//! gathers what is written into large pieces; all else is `run_psc`.
 #![tactic(auto)]
 
 ghost use Rattle.std.specs.Prelude.{◌≡◌, ◌∷◌, [], IfOk, string_bytes};
 ghost use Rattle.std.specs.Str.{IsUtf8};
 
-mod answer;
-mod kinds;
-mod lines;
-mod run;
-mod translation;
-mod words;
-
-use answer::{Answer, status_of};
-use lines::write_fault;
-use ps_base::{Names, NoMemory};
-use ps_edge::{ReaderSource, WriterSink};
-use run::run_psc;
+use ps_base::{Names, NoMemory, Sink};
+use ps_command::{Answer, run_psc, status_of, write_fault};
+use ps_edge::{GatherSink, ReaderSource, WriterSink};
 use std::alloc::Global;
 use std::env::FillError;
 use std::process::ExitCode;
@@ -62,17 +54,15 @@ fn words_of(rt: &(impl Env + Alloc<A = Global>)) -> Result<Vec<String>, NoMemory
 
 fn main(rt: HostRuntime) -> ExitCode {
     let mut input = ReaderSource::new(rt.stdin());
-    let mut output = WriterSink::new(rt.stdout());
-    let mut errors = WriterSink::new(rt.stderr());
+    let mut output = GatherSink::new(WriterSink::new(rt.stdout()));
+    let mut errors = GatherSink::new(WriterSink::new(rt.stderr()));
     let answer = match words_of(&rt) {
         Ok(words) => run_psc(rt.alloc(), &words, &mut input, &mut output, &mut errors),
         Err(NoMemory) => {
             let _ = write_fault(&Answer::NoMemory, &Names::new(rt.alloc()), &mut errors);
+            let _ = errors.flush();
             Answer::NoMemory
         }
     };
     ExitCode::from(status_of(&answer))
 }
-
-#[cfg(test)]
-mod tests;

@@ -1,6 +1,6 @@
 -- No argument, or the first one and then the others.
 use Rattle.ps_base.proofs.Writing.{adds_then, adds_nothing}
-use Rattle.c_emit.proofs.Parameters.{no_arguments, some_arguments}
+use Rattle.c_emit.proofs.ParameterTexts.{no_arguments, some_arguments}
 use Rattle.c_emit.proofs.text.put_arguments.Goals as goal
 
 pub returns-in-Some : goal.returns-in-Some

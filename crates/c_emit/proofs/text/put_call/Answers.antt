@@ -2,7 +2,7 @@
 use Rattle.std.specs.Prelude.{codes}
 use Rattle.c_ast.specs.Text.{statement_text}
 use Rattle.ps_base.proofs.Writing.{adds_then}
-use Rattle.c_emit.proofs.Targets.{target_word_then}
+use Rattle.c_emit.proofs.TargetsComeFirst.{target_word_then}
 use Rattle.c_emit.proofs.text.put_call.Goals as goal
 
 pub returns : goal.returns

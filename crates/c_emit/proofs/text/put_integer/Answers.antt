@@ -1,7 +1,7 @@
 -- The text of an integer, by its sign and its magnitude.
 use Rattle.std.proofs.Common.{w64}
 use Rattle.std.proofs.lemmas.Int.{to_z-of_z}
-use Rattle.c_emit.proofs.Integers.{integer_natural, integer_least, integer_negative}
+use Rattle.c_emit.proofs.IntegerTexts.{integer_natural, integer_least, integer_negative}
 use Rattle.c_emit.proofs.text.put_integer.Goals as goal
 
 pub returns-then-number-ge0 : goal.returns-then-number-ge0

@@ -1,7 +1,7 @@
 -- The target, and then the atom.
 use Rattle.c_ast.specs.Text.{statement_text}
 use Rattle.ps_base.proofs.Writing.{adds_then}
-use Rattle.c_emit.proofs.Targets.{target_then}
+use Rattle.c_emit.proofs.TargetsComeFirst.{target_then}
 use Rattle.c_emit.proofs.text.put_move.Goals as goal
 
 pub returns : goal.returns

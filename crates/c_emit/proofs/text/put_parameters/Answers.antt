@@ -1,7 +1,7 @@
 -- No parameter, or the first one and then the others.
 use Rattle.std.proofs.Common.{◌-◌, arith}
 use Rattle.ps_base.proofs.Writing.{adds_then, adds_nothing}
-use Rattle.c_emit.proofs.Parameters.{no_parameters, some_parameters, parameters_at, parameters_none}
+use Rattle.c_emit.proofs.ParameterTexts.{no_parameters, some_parameters, parameters_at, parameters_none}
 use Rattle.c_emit.proofs.text.put_parameters.Goals as goal
 
 pub returns-then-count-eq0 : goal.returns-then-count-eq0

@@ -1,8 +1,8 @@
 use Rattle.std.proofs.Common.{ap, sym, ◌∙◌}
 use Rattle.std.specs.Prelude.{◌++◌}
 use Rattle.c_emit.specs.declared.unit.Code.{Code}
-use Rattle.c_emit.specs.Code.{Coded, coded_node, coded}
-use Rattle.c_emit.proofs.Building.{built-if}
+use Rattle.c_emit.specs.InsideCode.{Coded, coded_node, coded}
+use Rattle.c_emit.proofs.PartsMakeCode.{built-if}
 use Rattle.ps_plain.proofs.Trees.{fold-if}
 use Rattle.c_emit.proofs.unit.+build_expr.Goals as goal
 

@@ -1,5 +1,5 @@
 use Rattle.std.proofs.Common.{◌≡◌, ◌+◌, ◌++◌, map, drop}
-use Rattle.c_emit.specs.Code.{coded, operands_size, operands_labels, operands_code, operands_places}
+use Rattle.c_emit.specs.InsideCode.{coded, operands_size, operands_labels, operands_code, operands_places}
 use Rattle.c_emit.proofs.unit.+build_expr.Given as goal
 
 -- with the code of the operands that are left, the code is that of all of them

@@ -3,8 +3,8 @@ use Rattle.byte_store.specs.Agree.{Agree, Shallow}
 use Rattle.ps_plain.specs.Meaning.{Source}
 use Rattle.c_ast.specs.WellFormed.{IsWellFormed}
 use Rattle.c_meaning.specs.Machine.{CRun}
-use Rattle.c_emit.proofs.Formed.{well-formed}
-use Rattle.c_emit.proofs.Runs.{agrees, is_shallow}
+use Rattle.c_emit.proofs.UnitsAreFormed.{well-formed}
+use Rattle.c_emit.proofs.UnitsDoTheSame.{agrees, is_shallow}
 use Rattle.c_emit.proofs.unit.build.Goals as goal
 
 pub returns-clause-formed : goal.returns-clause-formed

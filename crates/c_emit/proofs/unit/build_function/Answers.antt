@@ -1,7 +1,7 @@
 use Rattle.std.proofs.Common.{◌≡◌, ◌+◌, ◌<◌, List, length, drop, get_or, ap, ◌∙◌, arith}
 use Rattle.ps_plain.specs.declared.program.Write.{Write}
-use Rattle.c_emit.specs.Code.{writes_size, writes_labels}
-use Rattle.c_emit.proofs.Building.{next-member, write-more}
+use Rattle.c_emit.specs.InsideCode.{writes_size, writes_labels}
+use Rattle.c_emit.proofs.PartsMakeCode.{next-member, write-more}
 use Rattle.c_emit.proofs.unit.build_function.Goals as goal
 
 pub loop-write-preserved : goal.loop-write-preserved

@@ -1,5 +1,5 @@
 use Rattle.std.proofs.Common.{◌≡◌, ◌+◌, ◌++◌, drop}
-use Rattle.c_emit.specs.Code.{writes_size, writes_labels, writes_code}
+use Rattle.c_emit.specs.InsideCode.{writes_size, writes_labels, writes_code}
 use Rattle.c_emit.proofs.unit.build_function.Given as goal
 
 -- with the code of the writes that are left, the code is that of all of them

@@ -1,6 +1,6 @@
 use Rattle.std.proofs.Common.{◌<◌, List, length, get_or, ap, ◌∙◌, arith}
 use Rattle.ps_plain.specs.declared.program.Procedure.{Procedure}
-use Rattle.c_emit.proofs.Sizes.{procedure-small, one-small}
+use Rattle.c_emit.proofs.CodeIsSmall.{procedure-small, one-small}
 use Rattle.c_emit.proofs.unit.build_unit.Goals as goal
 
 pub build_function-requires-clause-variables : goal.build_function-requires-clause-variables

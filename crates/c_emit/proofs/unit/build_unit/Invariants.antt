@@ -1,5 +1,5 @@
 use Rattle.std.proofs.Common.{◌≡◌, map, take}
-use Rattle.c_emit.specs.Code.{function_of}
+use Rattle.c_emit.specs.InsideCode.{function_of}
 use Rattle.c_emit.proofs.unit.build_unit.Given as goal
 
 -- the functions of the procedures so far

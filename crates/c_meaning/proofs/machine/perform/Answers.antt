@@ -1,6 +1,6 @@
 -- A return is performed as the machine does it.
 use Rattle.std.proofs.Common.{sym, subst}
-use Rattle.c_meaning.specs.Steps.{Performs}
+use Rattle.c_meaning.specs.InsideSteps.{Performs}
 use Rattle.c_meaning.proofs.machine.perform.Goals as goal
 
 pub returns-in-Return : goal.returns-in-Return

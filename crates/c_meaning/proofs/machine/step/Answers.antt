@@ -1,6 +1,6 @@
 -- A step by code performs the next statement as the machine does, and leaves each frame at one of its function's statements.
 use Rattle.std.proofs.Common.{rules}
-use Rattle.c_meaning.proofs.Stepping.{step-declared, step-targets, step-steps, step-stands}
+use Rattle.c_meaning.proofs.StepsAreTheMachines.{step-declared, step-targets, step-steps, step-stands}
 use Rattle.c_meaning.proofs.machine.step.Goals as goal
 
 pub perform-requires-clause-declared : goal.perform-requires-clause-declared

@@ -2,8 +2,8 @@
 use Rattle.std.proofs.Common.{rules, ◌≡◌, [], ◌∷◌, ◌++◌, sym, ap, ◌∙◌, subst}
 use Rattle.std.specs.List.{AllByRecursion}
 use Rattle.c_meaning.specs.Stack.{Stack}
-use Rattle.c_meaning.specs.Steps.{HasTarget}
-use Rattle.c_meaning.proofs.Frames.{all-last, leave-goes}
+use Rattle.c_meaning.specs.InsideSteps.{HasTarget}
+use Rattle.c_meaning.proofs.FramesFollow.{all-last, leave-goes}
 use Rattle.c_meaning.proofs.perform.leave.Goals as goal
 
 pub resume-requires : goal.resume-requires

@@ -1,6 +1,6 @@
 -- A call enters its function.
 use Rattle.std.proofs.Common.{rules}
-use Rattle.c_meaning.proofs.Frames.{call-goes}
+use Rattle.c_meaning.proofs.FramesFollow.{call-goes}
 use Rattle.c_meaning.proofs.perform.perform_call.Goals as goal
 
 pub returns-in-Ok-enter : goal.returns-in-Ok-enter

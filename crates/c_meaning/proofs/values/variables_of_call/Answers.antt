@@ -1,6 +1,6 @@
 -- One more argument is written.
 use Rattle.std.proofs.Common.{ℕ, get_or, None}
-use Rattle.c_meaning.proofs.Frames.{fills}
+use Rattle.c_meaning.proofs.FramesFollow.{fills}
 use Rattle.c_meaning.proofs.values.variables_of_call.Goals as goal
 
 pub loop-i-preserved : goal.loop-i-preserved

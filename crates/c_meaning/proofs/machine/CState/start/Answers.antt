@@ -1,7 +1,7 @@
 -- The state at the start stands at the first statement.
 use Rattle.std.proofs.Common.{rules, sym, subst}
 use Rattle.c_meaning.specs.Steps.{Stands}
-use Rattle.c_meaning.proofs.Stepping.{starts-stand}
+use Rattle.c_meaning.proofs.StepsAreTheMachines.{starts-stand}
 use Rattle.c_meaning.proofs.machine.CState.start.Goals as goal
 
 pub returns-clause-stands : goal.returns-clause-stands

@@ -1,0 +1,6 @@
+-- The state stands for the unit at each step.
+use Rattle.c_meaning.specs.Steps.{Stands}
+use Rattle.command_cases.proofs.runs.perform.Given as goal
+
+abbrev pub invariant-loop : goal.invariant-loop
+invariant-loop l = Stands l.unit l.state

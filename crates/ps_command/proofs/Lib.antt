@@ -1,0 +1,2 @@
+pub mod UnitsTranslateTexts
+pub mod WrittenThenFlushed

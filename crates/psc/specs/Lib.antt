@@ -1,5 +1,0 @@
-pub mod Words
-pub mod Lines
-pub mod Headline
-pub mod Refusals
-pub mod Answers
