@@ -10,6 +10,7 @@ use Rattle.std.proofs.lemmas.Bool.{leb-true, le-leb}
 use Rattle.ps_base.specs.declared.faults.Op.{Op}
 use Rattle.byte_store.specs.Blocks.{window, rest, overwritten}
 use Rattle.byte_store.specs.Operations.{all_set, and_before}
+use Rattle.ps_base.proofs.Choices.{none_some, some_same}
 
 -- so many bytes before those that are counted
 abbrev pub further : ℕ → Result ℕ Op → Result ℕ Op
@@ -24,12 +25,6 @@ one_more_set {A = A} xs at new i a is inside more =
     let same : get_or set_new i (Some a) ≡ Some a = get_or-map Some new i a (Some a) more ∙ ap Some is in
     let long : length set_new ≡ length new = length-map new Some in
     ap (λ x. slice_set (paste xs at set_new i) (at + i) x) (sym same) ∙ paste_more xs at set_new i (Some a) inside (omega (arith, long, more))
-
-none_some : {A B : Type 0} {a : A} → None ≡ Some a → B
-none_some {A} {B} {a} e = absurd (let clash : None ≡ Some a = e in cc)
-
-some_same : {A : Type 0} {a b : A} → Some a ≡ Some b → a ≡ b
-some_same {A} {a} {b} e = let same : Some a ≡ Some b = e in cc
 
 -- one more byte is set
 all_set_append : {A : Type 0} (xs : List (Option A)) (ys : List A) (a : A) → all_set xs ≡ Some ys → all_set (xs ++ Some a ∷ []) ≡ Some (ys ++ a ∷ [])

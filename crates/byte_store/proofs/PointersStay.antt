@@ -16,21 +16,13 @@ use Rattle.byte_store.specs.Worlds.{Surroundings, next_grant}
 use Rattle.byte_store.specs.Blocks.{Block, Bytes, Cells, Freed, Memory, find, replaced, block_of, with_block, length_of, is_within, is_pointer, overwritten, rest, beside}
 use Rattle.byte_store.specs.Operations.{and_then, inside, change, with_bytes, with_cell, freed, plus, place_at, moved, set_byte, release, granted, allocation, fixed, is_size, bytes_of_word}
 use Rattle.byte_store.specs.Store.{KeepsPointers, Keeps, AllocationKeeps, PointersStay}
-
-none_some : {A B : Type 0} {a : A} → None ≡ Some a → B
-none_some {A} {B} {a} e = absurd (let clash : None ≡ Some a = e in cc)
-
-err_ok : {A B : Type 0} {a : A} {op : Op} → Err op ≡ Ok a → B
-err_ok {A} {B} {a} {op} e = absurd (let clash : Err op ≡ Ok a = e in cc)
+use Rattle.ps_base.proofs.Choices.{none_some, err_ok, some_same}
 
 abbrev IsSameOk : {A : Type 0} → A → A → Type 0
 IsSameOk {A} a b = ◌≡◌ {A = Result A Op} (Ok a) (Ok b)
 
 ok_same : {A : Type 0} {a b : A} → IsSameOk a b → a ≡ b
 ok_same {A} {a} {b} e = let same : IsSameOk a b = e in cc
-
-some_same : {A : Type 0} {a b : A} → Some a ≡ Some b → a ≡ b
-some_same {A} {a} {b} e = let same : Some a ≡ Some b = e in cc
 
 -- ---- numbered values
 

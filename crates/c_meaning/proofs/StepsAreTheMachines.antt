@@ -24,6 +24,7 @@ use Rattle.c_meaning.specs.Stack.{Stack}
 use Rattle.c_meaning.specs.Steps.{StandsAt, Waits, Stands, starts_at, caller_of, callers_of, machine_state, IsMove, Steps}
 use Rattle.c_meaning.specs.InsideSteps.{HasTarget, IsNext, NamesOwn, Performs}
 use Rattle.c_meaning.proofs.FramesFollow.{values-are, all-last}
+use Rattle.ps_base.proofs.Choices.{true_or_false}
 
 -- ---- lists
 
@@ -71,10 +72,6 @@ label-ends n (statements.Call k f vs) left e h = absurd cc
 label-ends n (statements.IfGoto a m) left e h = absurd cc
 label-ends n (statements.Goto m) left e h = absurd cc
 label-ends n (statements.Return a) left e h = absurd cc
-
-true_or_false : (b : Bool) → (b ≡ true) ⊎ (b ≡ false)
-true_or_false true = inl refl
-true_or_false false = inr refl
 
 -- what stands behind a label ends well
 behind-ends : (n : ℕ) (ss left : List Statement) → after_label n ss ≡ Some left → EndsWell ss → EndsWell left

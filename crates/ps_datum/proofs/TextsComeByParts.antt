@@ -12,6 +12,7 @@ use Rattle.ps_datum.specs.declared.datum.DatumKind.TheVariants as k
 use Rattle.ps_datum.specs.Writing.{Text, Cut, all_known, is_known, text_node, spaced, written}
 use Rattle.ps_datum.specs.InsideWriting.{Writes, Adds, space_before, kind_written}
 use Rattle.ps_datum.proofs.Trees.{fold-symbol, fold-list, fold-vector, fold-dotted}
+use Rattle.ps_base.proofs.Choices.{and_left, and_rest}
 
 -- what was cut is cut where more stands behind it
 cut_more : (s t a b : Text) → Cut s t a → Cut s t (a ++ b)
@@ -72,14 +73,6 @@ adds_none {s = s} {q = q} f zero (x ∷ xs) e = absurd (omega arith)
 adds_none {s = s} {q = q} f (suc i) xs e = subst (λ (z : Text). Adds s q s q z) (sym (ap (flat_map (λ y. 32 ∷ y)) (nil_from_length (drop (suc i) (map f xs)) (omega (arith, length-drop (suc i) (map f xs), length-map xs f))))) (adds_nothing s q)
 
 -- ---- known names
-
-and_left : (a b : Bool) → (a && b) ≡ true → a ≡ true
-and_left true b h = refl
-and_left false b h = absurd cc
-
-and_rest : (a b : Bool) → (a && b) ≡ true → b ≡ true
-and_rest true b h = h
-and_rest false b h = absurd cc
 
 -- each part passes the test that all pass
 known_at : {A : Type 0} (f : A → Bool) (xs : List A) (i : ℕ) (y : A) → all_known (map f xs) ≡ true → i < length xs → y ≡ get_or xs i y → f y ≡ true

@@ -12,9 +12,7 @@ use Rattle.ps_prims.specs.Rows.{Undefined, arithmetic, dividing, is_negative, is
 use Rattle.ps_prims.specs.Inside.{number_out}
 use Rattle.ps_prims.specs.Division.{answers_integer, Divided, DivisionsAreRounded, DivisionsAreUndefined, HasNoQuotient, IsRounded, Leaves, SameSign}
 use Rattle.ps_prims.proofs.QuietRowsShowNothing.{quiet_arithmetic}
-
-true_false : {A : Type 0} → true ≡ false → A
-true_false e = absurd (let clash : true ≡ false = e in cc)
+use Rattle.ps_base.proofs.Choices.{true_false}
 
 -- ---- the quotient
 

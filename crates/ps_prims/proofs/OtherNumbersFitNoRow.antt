@@ -3,6 +3,7 @@
 use Rattle.std.proofs.Common.{◌≡◌, ◌≢◌, suc, List, [], ◌∷◌, length, Bool, true, false, Option, Some, None, refl, ap, ◌∙◌}
 use Rattle.std.specs.Prelude.{◌&&◌, is_some}
 use Rattle.ps_prims.specs.Sorts.{Sort, Values, Meant, Taking, applied, and_takes, fits, read}
+use Rattle.ps_base.proofs.Choices.{true_false}
 
 and_false : (b : Bool) → b && false ≡ false
 and_false true = refl
@@ -13,9 +14,6 @@ other_number values [] [] other = absurd (other refl)
 other_number values [] (v ∷ vs) other = refl
 other_number values (s ∷ ss) [] other = refl
 other_number values (s ∷ ss) (v ∷ vs) other = ap (λ b. is_some (read values s v) && b) (other_number values ss vs (λ same. other (ap suc same))) ∙ and_false (is_some (read values s v))
-
-true_false : {A : Type 0} → true ≡ false → A
-true_false e = absurd (let clash : true ≡ false = e in cc)
 
 -- a row is wrong where the operands do not fit it
 pub applied_none : {V R : Type 0} (values : Values V) (ss : List Sort) (f : Taking V ss R) (vs : List V) → fits values ss vs ≡ false → applied values ss f vs ≡ None

@@ -10,12 +10,7 @@ use Rattle.byte_store.specs.declared.pointer.Pointer.{Pointer}
 use Rattle.byte_store.specs.Blocks.{Block, Bytes, Cells, Freed, Memory, member, rest, located}
 use Rattle.byte_store.specs.Operations.{and_then, inside, set, byte_at, cell_at, place_at, look, plus, moved, load, get, text_at, text_length, is_index}
 use Rattle.ps_prims.specs.Rows.{char_of}
-
-err_ok : {A B : Type 0} {a : A} {op : Op} → Err op ≡ Ok a → B
-err_ok {A} {B} {a} {op} e = absurd (let clash : Err op ≡ Ok a = e in cc)
-
-none_some : {A B : Type 0} {a : A} → None ≡ Some a → B
-none_some {A} {B} {a} e = absurd (let clash : None ≡ Some a = e in cc)
+use Rattle.ps_base.proofs.Choices.{err_ok, none_some}
 
 -- a member has a place
 rest_of_member : {A : Type 0} (xs : List A) (at : ℤ) (x : A) → member xs at ≡ Some x → (ys : List A) × (rest xs at ≡ Some ys)

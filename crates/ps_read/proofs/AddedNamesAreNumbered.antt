@@ -11,7 +11,7 @@ use Rattle.ps_datum.specs.declared.datum.DatumKind.TheVariants as k
 use Rattle.ps_read.specs.declared.token.Front.TheVariants.{Whole, Named, Quoted}
 use Rattle.ps_read.specs.declared.token.Word.TheVariants as w
 use Rattle.ps_read.specs.Lexical.{Table, number_or, number_in, added_by, added, resolved, noted}
-use Rattle.ps_read.proofs.TestsByCases.{true_or_false}
+use Rattle.ps_base.proofs.Choices.{true_or_false}
 
 later : (o : Option ℕ) (n : ℕ) → option_map suc o ≡ Some n → (m : ℕ) × (n ≡ suc m) × (o ≡ Some m)
 later None n h = cc

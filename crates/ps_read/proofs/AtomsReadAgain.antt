@@ -35,15 +35,12 @@ use Rattle.ps_read.specs.declared.token.Front.TheVariants.{Gap, Whole, Named, Qu
 use Rattle.ps_read.specs.Grammar.{joined_by}
 use Rattle.ps_read.specs.Lexical.{Table, added, added_by, after, begun, char_front, ends_here, escaped, front_of, integer_word, is_delimiter, is_digit, is_escape, is_float, is_identifier, is_initial, is_numeral, is_numeral_in, is_space, is_subsequent, listed, listed_by, marked_base, name_in, named_char, noted, number_in, number_or, resolved, run_front, run_len, run_word, small, string_from, taken, tokens, word_in}
 use Rattle.ps_read.specs.Reading.{Grown}
-use Rattle.ps_read.proofs.TestsByCases.{and_left, and_rest}
+use Rattle.ps_base.proofs.Choices.{and_left, and_rest}
 use Rattle.ps_read.proofs.TablesOnlyGrow.{grown_listed}
 use Rattle.ps_read.proofs.FrontsStayBeforeOthers.{Delimited, Fine, FineWord, IsAtom, is_run_byte, number_added, number_kept, run_front_is, run_whole, text_at}
+use Rattle.ps_base.proofs.Choices.{or_false}
 
 -- ---- tests
-
-or_false : (a b : Bool) → (a || b) ≡ false → (a ≡ false) × (b ≡ false)
-or_false true b h = absurd cc
-or_false false b h = (refl, h)
 
 or_true : (a b : Bool) → (a || b) ≡ true → (a ≡ true) ⊎ (b ≡ true)
 or_true true b h = inl refl

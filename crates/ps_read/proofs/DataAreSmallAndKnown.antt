@@ -18,7 +18,7 @@ use Rattle.ps_read.specs.declared.token.Word.TheVariants as w
 use Rattle.ps_read.specs.Grammar.{datum, quoted, joined_by, joined, IsDatum, atom, list, vector, quote, dotted, IsData, none, more}
 use Rattle.ps_read.specs.Lexical.{Table}
 use Rattle.ps_read.specs.Reading.{AllKnown}
-use Rattle.ps_read.proofs.TestsByCases.{and_true, and_both}
+use Rattle.ps_base.proofs.Choices.{and_true, and_both}
 
 abbrev pub kind_weight : DatumKind → ℕ
 kind_weight x = fold-DatumKind ℕ ℕ weight_node (λ d. d.kind) x

@@ -10,7 +10,7 @@ use Rattle.std.specs.Char.{digit_value}
 use Rattle.std.proofs.lemmas.Bool.{ltb-true, ltb-false, lt-ltb}
 use Rattle.ps_base.specs.Numbers.{fit, is_word}
 use Rattle.ps_read.specs.Lexical.{is_numeral}
-use Rattle.ps_read.proofs.TestsByCases.{true_or_false, and_true}
+use Rattle.ps_base.proofs.Choices.{true_or_false, and_true}
 
 -- digits are those bytes
 all_digits : (base : ℕ) (ds : List ℕ) → list_all (λ c. nat_lt (digit_value c) base) ds ≡ true → AllDigits base ds

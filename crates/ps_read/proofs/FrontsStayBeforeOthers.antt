@@ -20,7 +20,7 @@ use Rattle.ps_read.specs.declared.token.Word.TheVariants as w
 use Rattle.ps_read.specs.declared.token.Front.{Front}
 use Rattle.ps_read.specs.declared.token.Front.TheVariants.{Whole}
 use Rattle.ps_read.specs.Grammar.{token, joined_by}
-use Rattle.ps_read.proofs.TestsByCases.{and_left, and_rest}
+use Rattle.ps_base.proofs.Choices.{and_left, and_rest}
 use Rattle.ps_read.proofs.TokensComeByFronts.{skipped, listed_skipped, taken_resolved}
 use Rattle.ps_read.specs.Lexical.{Table, added, added_by, after, begun, behind, ends_here, front_of, is_delimiter, listed, listed_by, noted, number_in, number_or, resolved, run_front, run_len, run_word, taken, tokens}
 

@@ -1,4 +1,3 @@
-pub mod TestsByCases
 pub mod DigitsAreParsed
 pub mod AddedNamesAreNumbered
 pub mod MachineReadsData

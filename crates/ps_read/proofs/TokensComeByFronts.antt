@@ -18,7 +18,7 @@ use Rattle.std.specs.Str.Parse.{without_leading_sign}
 use Rattle.std.proofs.lemmas.Bool.{eqb-true}
 use Rattle.ps_base.specs.Names.{number_of}
 use Rattle.ps_read.specs.Lexical.{Table, added, added_by, after, begun, behind, char_front, ends_here, escaped, front_of, is_delimiter, is_escape, is_float, is_identifier, is_numeral, is_numeral_in, is_space, listed, listed_by, marked_base, named_char, noted, resolved, run_front, run_len, run_word, small, string_from, taken, tokens}
-use Rattle.ps_read.proofs.TestsByCases.{and_true}
+use Rattle.ps_base.proofs.Choices.{and_true}
 use Rattle.ps_read.specs.InsideReading.{Within, IsResolved}
 use Rattle.std.specs.Prelude.{Option, Some, None, Err}
 use Rattle.ps_read.specs.declared.token.Breach.{Breach}

@@ -10,9 +10,7 @@ use Rattle.std.proofs.lemmas.Bool.{eq-eqb, ne_eqb, le-ltb, or_left, or_right}
 use Rattle.std.proofs.lemmas.Bool.Decides.{eqb_tells}
 use Rattle.ps_types.specs.Writing.{before, different, number, stands_in}
 use Rattle.ps_types.specs.InsideFirsts.{noted, Numbered}
-
-true_false : {A : Type 0} → true ≡ false → A
-true_false e = absurd (let clash : true ≡ false = e in cc)
+use Rattle.ps_base.proofs.Choices.{true_false, or_false}
 
 or_none : (b : Bool) → (b || false) ≡ b
 or_none true = refl
@@ -21,10 +19,6 @@ or_none false = refl
 or_true : (b : Bool) → (b || true) ≡ true
 or_true true = refl
 or_true false = refl
-
-or_false : (a b : Bool) → (a || b) ≡ false → (a ≡ false) × (b ≡ false)
-or_false true b h = true_false h
-or_false false b h = (refl, h)
 
 -- ---- one more member
 

@@ -13,6 +13,7 @@ use Rattle.ps_types.specs.declared.types.Ty.TheVariants as types
 use Rattle.ps_types.specs.declared.types.RecordKind.{RecordKind}
 use Rattle.ps_types.specs.Writing.{Text, all_known, next_parts, spaced, text_node, text_in}
 use Rattle.ps_types.specs.InsideWriting.{space_before}
+use Rattle.ps_base.proofs.Choices.{and_left, and_rest}
 
 -- ---- the text of a type of parts
 
@@ -57,14 +58,6 @@ adds_none {s = s} {q = q} f zero (x ∷ xs) e = absurd (omega arith)
 adds_none {s = s} {q = q} f (suc i) xs e = subst (λ (z : Text). Adds s q s q z) (sym (ap next_parts (nil_from_length (drop (suc i) (map f xs)) (omega (arith, length-drop (suc i) (map f xs), length-map xs f))))) (adds_nothing s q)
 
 -- ---- known parts
-
-and_left : (a b : Bool) → (a && b) ≡ true → a ≡ true
-and_left true b h = refl
-and_left false b h = absurd cc
-
-and_rest : (a b : Bool) → (a && b) ≡ true → b ≡ true
-and_rest true b h = h
-and_rest false b h = absurd cc
 
 -- each part passes the test that all pass
 pub known_at : {A : Type 0} (f : A → Bool) (xs : List A) (i : ℕ) (y : A) → all_known (map f xs) ≡ true → i < length xs → y ≡ get_or xs i y → f y ≡ true

@@ -74,7 +74,7 @@ fn put_text(names: &Names, out: &mut Vec<u8>, text: &Datum) -> Result<(), Troubl
 
 fn is_times(names: &Names, parts: &[Datum]) -> bool {
     match parts {
-        [word, ..] => word_of(names, word) == b"times",
+        [word, ..] => word_of(names, word) == b"times".as_slice(),
         [] => false,
     }
 }
