@@ -46,46 +46,63 @@ pub fn number_of(d: &Datum) -> Result<u32, Trouble> {
     }
 }
 
-/// Appends texts.
+// Appends texts.
 #[cycle(texts)]
-pub fn put_texts(names: &Names, out: &mut Vec<u8>, texts: &[Datum]) -> Result<(), Trouble> {
+fn put_texts(
+    alloc: Global,
+    names: &Names,
+    out: &mut Vec<u8>,
+    texts: &[Datum],
+) -> Result<(), Trouble> {
     for text in texts {
-        put_text(names, out, text)?;
+        put_text(alloc, names, out, text)?;
     }
     Ok(())
 }
 
 // Appends a text.
 #[cycle(texts)]
-fn put_text(names: &Names, out: &mut Vec<u8>, text: &Datum) -> Result<(), Trouble> {
+fn put_text(alloc: Global, names: &Names, out: &mut Vec<u8>, text: &Datum) -> Result<(), Trouble> {
     match &text.kind {
         DatumKind::Text(bytes) => Ok(out.extend_from_slice(bytes.as_slice())?),
         DatumKind::Integer(_) => put_byte(out, text),
-        DatumKind::List(parts) => {
-            if is_times(names, parts.as_slice()) {
-                put_times(names, out, parts.as_slice())
-            } else {
-                put_texts(names, out, parts.as_slice())
+        DatumKind::List(parts) => match parts.as_slice() {
+            [word, rest @ ..] => {
+                if word_of(names, word) == b"times".as_slice() {
+                    put_times(alloc, names, out, rest)
+                } else {
+                    put_texts(alloc, names, out, parts.as_slice())
+                }
             }
-        }
+            [] => Ok(()),
+        },
         _ => Err(Trouble::Unread(text.place)),
     }
 }
 
-fn is_times(names: &Names, parts: &[Datum]) -> bool {
+// Appends what is behind a number, so many times.
+#[cycle(texts)]
+fn put_times(
+    alloc: Global,
+    names: &Names,
+    out: &mut Vec<u8>,
+    parts: &[Datum],
+) -> Result<(), Trouble> {
     match parts {
-        [word, ..] => word_of(names, word) == b"times".as_slice(),
-        [] => false,
+        [count, texts @ ..] => {
+            let mut once = Vec::new(alloc);
+            for text in texts {
+                put_text(alloc, names, &mut once, text)?;
+            }
+            put_again(out, number_of(count)?, once.as_slice())
+        }
+        [] => Ok(()),
     }
 }
 
-// Appends what is behind a word and a number, so many times.
-#[cycle(texts)]
-fn put_times(names: &Names, out: &mut Vec<u8>, parts: &[Datum]) -> Result<(), Trouble> {
-    if let [_, count, texts @ ..] = parts {
-        for _ in 0..number_of(count)? {
-            put_texts(names, out, texts)?;
-        }
+fn put_again(out: &mut Vec<u8>, count: u32, text: &[u8]) -> Result<(), Trouble> {
+    for _ in 0..count {
+        out.extend_from_slice(text)?;
     }
     Ok(())
 }
@@ -99,7 +116,7 @@ fn put_byte(out: &mut Vec<u8>, d: &Datum) -> Result<(), Trouble> {
 /// The text that these make up together.
 pub fn joined(alloc: Global, names: &Names, texts: &[Datum]) -> Result<Vec<u8>, Trouble> {
     let mut out = Vec::new(alloc);
-    put_texts(names, &mut out, texts)?;
+    put_texts(alloc, names, &mut out, texts)?;
     Ok(out)
 }
 
@@ -108,7 +125,7 @@ pub fn each(alloc: Global, names: &Names, texts: &[Datum]) -> Result<Vec<Vec<u8>
     let mut all = Vec::new(alloc);
     for text in texts {
         let mut out = Vec::new(alloc);
-        put_text(names, &mut out, text)?;
+        put_text(alloc, names, &mut out, text)?;
         all.push(out)?;
     }
     Ok(all)
