@@ -7,7 +7,7 @@ use Rattle.std.specs.Str.{bytes_eq}
 use Rattle.std.proofs.lemmas.Slice.Eq.{bytes_eq-Decides}
 use Rattle.std.proofs.lemmas.List.{map-append, length-append, length-map}
 use Rattle.ps_base.specs.Names.{number_of}
-use Rattle.ps_base.proofs.Tables.{true_or_false}
+use Rattle.ps_base.proofs.Choices.{true_or_false}
 use Rattle.ps_plain.specs.Forms.{Head, all_some, names_in, arities_in}
 use Rattle.ps_plain.specs.Faults.{Flaws, flaws}
 use Rattle.ps_plain.proofs.Lists.{joined}

@@ -6,7 +6,7 @@ use Rattle.std.specs.Option.{option_map}
 use Rattle.std.specs.Str.{bytes_eq}
 use Rattle.std.proofs.lemmas.Slice.Eq.{bytes_eq-Decides}
 use Rattle.std.proofs.lemmas.Bool.{ne_eqb}
-use Rattle.ps_base.proofs.Tables.{true_or_false}
+use Rattle.ps_base.proofs.Choices.{true_or_false}
 use Rattle.ps_base.specs.Names.{IsNew, Adds, number_of}
 use Rattle.ps_resolve.specs.InsideHeads.{IsAdded}
 
