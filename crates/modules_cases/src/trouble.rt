@@ -1,0 +1,42 @@
+//! Why a case has no other line.
+
+use ps_base::{NoMemory, Place, Refusal};
+use std::alloc::{AllocError, AllocFailed};
+
+/// Why a case has no other line.
+#[derive(Clone, Copy, Debug, PartialEq, Eq)]
+pub enum Trouble {
+    /// The cases are no data.
+    NoData,
+    /// The datum at this place of the cases is not what may stand there.
+    Unread(Place),
+    /// Memory ran out.
+    NoMemory,
+}
+
+impl From<AllocError> for Trouble {
+    fn from(_e: AllocError) -> Trouble {
+        Trouble::NoMemory
+    }
+}
+
+impl<T: Drop> From<AllocFailed<T>> for Trouble {
+    fn from(_e: AllocFailed<T>) -> Trouble {
+        Trouble::NoMemory
+    }
+}
+
+impl From<NoMemory> for Trouble {
+    fn from(_e: NoMemory) -> Trouble {
+        Trouble::NoMemory
+    }
+}
+
+impl From<Refusal> for Trouble {
+    fn from(e: Refusal) -> Trouble {
+        match e {
+            Refusal::Fault(_) => Trouble::NoData,
+            Refusal::NoMemory => Trouble::NoMemory,
+        }
+    }
+}
