@@ -28,6 +28,3 @@ pub use runs::{
 };
 pub use store::{Store, pointers_stay};
 pub use world::World;
-
-#[cfg(test)]
-mod tests;

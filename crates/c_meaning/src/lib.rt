@@ -11,6 +11,3 @@ mod values;
 
 pub use laws::larger_bound_keeps;
 pub use machine::{CState, StepOut, step};
-
-#[cfg(test)]
-mod tests;

@@ -2,8 +2,8 @@
 
 ghost use Rattle.std.specs.Prelude.{◌<◌};
 
-use crate::*;
 use ps_base::{Calls, Items};
+use ps_edge::*;
 use std::alloc::Global;
 use std::fmt::Debug;
 use std::io;

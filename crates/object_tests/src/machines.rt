@@ -3,13 +3,13 @@
 ghost use Rattle.std.specs.Prelude.{◌≡◌, IfOk};
 ghost use Rattle.c_ast.specs.WellFormed.{IsWellFormed};
 
-use crate::*;
 use byte_store::Event::Output;
 use byte_store::{Events, World};
 use c_ast::Atom::{Integer, Variable};
 use c_ast::BinaryOperator::{Equal, Less, Subtract};
 use c_ast::Statement::{Call, Goto, IfGoto, Label, Move, Operation, Return, Write};
 use c_ast::{CFunction, CUnit, Statement};
+use c_meaning::*;
 use ps_base::{Items, NoMemory, Op};
 use std::alloc::Global;
 use std::test::Fail;

@@ -4,7 +4,7 @@
 ghost use Rattle.std.specs.Prelude.{◌<◌, ◌^◌, length, decimal};
 ghost use Rattle.ps_base.specs.Texts.{◌&◌};
 
-use crate::*;
+use ps_base::*;
 use std::alloc::Global;
 use std::test::Fail;
 
@@ -83,7 +83,7 @@ struct Numbered;
 impl Style<u64> for Numbered {
     ghost text = { λ k n. decimal k & decimal n };
 
-    #[tactic(auto, using(crate::proofs::Writing::adds_then))]
+    #[tactic(auto, using(ps_base::proofs::Writing::adds_then))]
     fn put_at<O: Sink>(out: &mut O, so_far: Written, place: u64, item: &u64) -> Written {
         let so_far = put_number(out, so_far, place);
         put_number(out, so_far, *item)

@@ -2,10 +2,10 @@
 
 ghost use Rattle.std.specs.Prelude.{◌≡◌, ◌<◌, ◌≤◌, ◌+◌, length};
 
-use crate::Pointer::Null;
-use crate::Value::{Boolean, Integer};
-use crate::{Base, Cell, Event, Pointer, Store, StoreFault, Value, Word, World, write_event};
 use bumpalo::Bump;
+use byte_store::Pointer::Null;
+use byte_store::Value::{Boolean, Integer};
+use byte_store::{Base, Cell, Event, Pointer, Store, StoreFault, Value, Word, World, write_event};
 use ps_base::Op::{Bounds, Freed, Size};
 use ps_base::{Items, MemorySink, NoMemory, SinkFault};
 use std::alloc::{Allocator, Global};

@@ -31,6 +31,3 @@ pub use wording::{op_word_of, put_place};
 
 /// A primitive, by its name.
 pub type Prim = PrimName;
-
-#[cfg(test)]
-mod tests;

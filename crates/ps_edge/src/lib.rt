@@ -17,6 +17,3 @@ pub use memory_source::MemorySource;
 pub use ps_base::{MemorySink, Sink, SinkFault, Taken, write_all};
 pub use source::{Piece, Source, TextFault, read_text};
 pub use std_io::{ReaderSource, WriterSink};
-
-#[cfg(test)]
-mod tests;

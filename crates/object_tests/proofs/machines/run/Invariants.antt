@@ -1,6 +1,6 @@
 -- The state stands for the unit at each step.
 use Rattle.c_meaning.specs.Steps.{Stands}
-use Rattle.c_meaning.proofs.tests.run.Given as goal
+use Rattle.object_tests.proofs.machines.run.Given as goal
 
 abbrev pub invariant-loop : goal.invariant-loop
 invariant-loop l = Stands l.unit l.state
