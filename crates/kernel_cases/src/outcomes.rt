@@ -57,14 +57,24 @@ fn put_evaluated(alloc: Global, out: &mut String, evaluated: &Evaluated) -> Resu
 
 /// What comes of the program of a kernel.
 pub fn outcome(alloc: Global, building: Building) -> Result<String, Trouble> {
+    let Building {
+        kernel,
+        globals,
+        store,
+        input,
+        grants,
+        calls,
+        turns,
+    } = building;
+    let world = World::new(input, grants);
     let evaluated = evaluate(
         alloc,
-        &building.kernel,
-        building.globals.as_slice(),
-        building.store,
-        World::new(building.input, building.grants),
-        building.calls,
-        building.turns,
+        &kernel,
+        globals.as_slice(),
+        store,
+        world,
+        calls,
+        turns,
     )?;
     let mut out = String::new(alloc);
     put_evaluated(alloc, &mut out, &evaluated)?;

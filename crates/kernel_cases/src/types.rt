@@ -1,4 +1,4 @@
-//! Types and kinds of records: `integer`, `char`, `unit`, `(vector T)`, `(tuple K)`, `(proc ANSWER T ...)`, `(var N)`, and
+//! Types and kinds of records: `integer`, `char`, `unit`, `(vector T)`, `(tuple K)`, `(proc (T ...) T)`, `(var N)`, and
 //! `(deep N)`, a vector of vectors, and so on, so many levels deep, of characters.
 
 use crate::data::{members, number_of, numbers_of};
@@ -39,15 +39,27 @@ fn form(
     parts: &[Datum],
 ) -> Result<Ty, Trouble> {
     match (word, parts) {
-        (TypeWord::Vector, [item]) => Ok(Ty::Vector(Boxed::new(alloc, ty(alloc, names, item)?)?)),
+        (TypeWord::Vector, [item]) => {
+            let item = ty(alloc, names, item)?;
+            Ok(Ty::Vector(Boxed::new(alloc, item)?))
+        }
         (TypeWord::Tuple, [kind]) => Ok(Ty::Tuple(number_of(kind)?)),
         (TypeWord::Var, [number]) => Ok(Ty::Var(number_of(number)?)),
-        (TypeWord::Proc, [answer, parameters @ ..]) => {
-            let answer = Boxed::new(alloc, ty(alloc, names, answer)?)?;
-            Ok(Ty::Proc(types(alloc, names, parameters)?, answer))
+        (TypeWord::Proc, [parameters, answer]) => {
+            let answer = ty(alloc, names, answer)?;
+            let answer = Boxed::new(alloc, answer)?;
+            Ok(Ty::Proc(parameters_of(alloc, names, parameters)?, answer))
         }
         (TypeWord::Deep, [levels]) => deep(alloc, number_of(levels)?),
         _ => Err(Trouble::Unread(at)),
+    }
+}
+
+#[cycle(ty)]
+fn parameters_of(alloc: Global, names: &Names, d: &Datum) -> Result<Tys, Trouble> {
+    match &d.kind {
+        DatumKind::List(parts) => types(alloc, names, parts.as_slice()),
+        _ => Err(Trouble::Unread(d.place)),
     }
 }
 
