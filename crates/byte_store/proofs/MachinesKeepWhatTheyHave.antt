@@ -15,7 +15,7 @@ module _ {S : Type 0} (M : Machine S) where
   begins_move add go h depth s (Ends f) e = begins_self (M.events s)
 
   -- a run begins with the events of its state
-  begins_run : OnlyAdds M → (n depth : ℕ) (s : S) → Begins (M.events s) (run_from M n depth s).events
+  pub begins_run : OnlyAdds M → (n depth : ℕ) (s : S) → Begins (M.events s) (run_from M n depth s).events
   begins_run add zero depth s = begins_self (M.events s)
   begins_run add (suc n) depth s = begins_move add (λ d t. run_from M n d t) (begins_run add n) (greater depth (M.frames s)) s (M.step s) refl
 

@@ -4,9 +4,13 @@ pub mod Outcome
 pub mod Agree
 pub mod Laws
 pub mod Machine
+pub mod Refining
 pub mod Blocks
 pub mod Operations
 pub mod Store
+pub mod Mapping
+pub mod MappingLaws
+pub mod Contents
 pub mod Inside
 pub mod Lines
 pub mod InsideLines

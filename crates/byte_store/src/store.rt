@@ -27,7 +27,7 @@ const MOST: i64 = 1_099_511_627_776;
 #[derive(Drop)]
 pub struct Store<C: Cell, A: Allocator = Global> {
     alloc: A,
-    fixed: BTreeMap<u32, Block<C, A>, A>,
+    pub(crate) fixed: BTreeMap<u32, Block<C, A>, A>,
     next_fixed: u32,
     made: Vec<Block<C, A>, A>,
 }
