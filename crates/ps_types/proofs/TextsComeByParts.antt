@@ -1,7 +1,7 @@
 -- Texts that are written part by part, and parts that are known.
 -- For: put_type, put_types, knows_all
-use Rattle.std.proofs.Common.{◌≡◌, ℕ, zero, suc, ◌+◌, ◌<◌, Bool, true, false, List, [], ◌∷◌, length, drop, map, get_or, Result, refl, sym, ap, subst, ◌∙◌, arith, drop-cons, add-one}
-use Rattle.std.specs.Prelude.{◌&&◌, codes}
+use Rattle.std.proofs.Common.{◌≡◌, ℕ, zero, suc, ◌+◌, ◌<◌, Bool, true, List, [], ◌∷◌, length, drop, map, get_or, Result, refl, sym, ap, subst, ◌∙◌, arith, drop-cons, add-one}
+use Rattle.std.specs.Prelude.{codes}
 use Rattle.std.proofs.lemmas.List.{nil_from_length, length-drop, length-map, get_or-map}
 use Rattle.ps_base.specs.declared.sink.SinkFault.{SinkFault}
 use Rattle.ps_base.specs.SinkStates.{SinkState}

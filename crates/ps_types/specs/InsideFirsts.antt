@@ -1,6 +1,6 @@
 -- The variables of a type in the order in which they first appear (this project's own): what the functions that note them
 -- promise each other. No public clause cites this file.
-use Rattle.std.specs.Prelude.{◌≡◌, ℕ, nat_lt, if◌then◌else◌, List, [], ◌∷◌, ◌++◌, Option, Some, length, slice_get}
+use Rattle.std.specs.Prelude.{◌≡◌, ℕ, nat_lt, if◌then◌else◌, List, [], ◌∷◌, ◌++◌, Some, length, slice_get}
 use Rattle.ps_types.specs.Writing.{stands_in, number}
 
 -- what was noted so far, and one more variable, unless it was noted before or there is no room

@@ -1,4 +1,6 @@
 pub mod Writing
+pub mod Substitutions
+pub mod Laws
 pub mod InsideWriting
 pub mod InsideFirsts
 pub mod InsideSearch

@@ -3,9 +3,11 @@
 #![tactic(auto)]
 
 mod firsts;
+mod laws;
 mod numbering;
 mod types;
 mod writing;
 
+pub use laws::{instances_are_no_smaller, substitutions_compose};
 pub use types::{Kinds, RecordKind, Scheme, Ty, Tys};
 pub use writing::{has_known_records, write_type};

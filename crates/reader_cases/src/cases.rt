@@ -5,6 +5,7 @@ use crate::readings::{data_of, fronts, knows, listed, names_behind, places, show
 use crate::texts::{each, form_of, joined, number_of};
 use crate::trouble::Trouble;
 use crate::types::{kinds_of, taken, type_of};
+use crate::unifying::steps_line;
 use ps_base::Names;
 use ps_datum::Datum;
 use std::alloc::Global;
@@ -47,6 +48,7 @@ fn answer_of(alloc: Global, names: &Names, case: &Datum) -> Result<Vec<u8>, Trou
             let failing = number_of(failing)?;
             type_line(alloc, names, failing, b"<", kinds, t)
         }
+        (b"unify", steps) => steps_line(alloc, names, steps),
         (b"names", texts) => listed(
             alloc,
             &names_behind(alloc, each(alloc, names, texts)?.as_slice())?,

@@ -1,6 +1,6 @@
-//! A program that runs cases of the reader, of what is written of data, and of the texts of types: from Scheme data on
-//! standard input to one line for each case on standard output, by `read_all`, `write_datum`, `write_type` and the tests of
-//! their conditions. It is no part of the compiler.
+//! A program that runs cases of the reader, of what is written of data, of the texts of types, and of unification: from Scheme
+//! data on standard input to one line for each case on standard output, by `read_all`, `write_datum`, `write_type`, `unify`,
+//! `unify_within` and the tests of their conditions. It is no part of the compiler.
 //!
 //! A TEXT is a string, an integer, which is one byte, `(TEXT ...)`, or `(times N TEXT ...)`. In a line, a byte that is no
 //! printable one of ASCII is shown as its number in brackets.
@@ -17,6 +17,9 @@
 //! - `(type (KIND ...) TYPE)`: the text of a type, or `unknown`. Kinds of records are given by their names or by the numbers
 //!   of these. `(type-cut N (KIND ...) TYPE)`: what a sink of two bytes a call, which failed at call N, has then taken; call
 //!   0 was `<`. `types.rt` has the ways to write a type.
+//! - `(unify STEP ...)`: from no binding on, what each step answers. `(equal TYPE TYPE)` and `(within LIMIT TYPE TYPE)` make two
+//!   types equal: `ok`, `unequal`, `large` or `memory`. `(means TYPE)` is the text of what a type means, `(bound)` how many
+//!   variables are bound, and `(room N TYPE)` what the size of what the type means leaves of N, or `none`.
 #![tactic(auto)]
 
 mod agreement;
@@ -26,6 +29,7 @@ mod slow;
 mod texts;
 mod trouble;
 mod types;
+mod unifying;
 
 use std::io;
 use std::io::Write;

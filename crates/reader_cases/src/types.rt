@@ -1,7 +1,8 @@
 //! The types of cases, and their texts.
 //!
 //! A type is `integer`, `boolean`, `char`, `unit`, `address`, `string`, `(vector T)`, `(record N)`, `(var N)`,
-//! `(proc (T ...) T)`, or `(down N COUNT T)`, a procedure whose parameters are so many variables from N down.
+//! `(proc (T ...) T)`, or a procedure with so many parameters: `(down N COUNT T)`, the variables from N down,
+//! `(up N COUNT T)`, those from N up, and `(pairs N COUNT T)`, `(proc ((var I) (var I)) unit)` for each I from N up.
 
 use crate::texts::{members, number_of, text_of, word_of};
 use crate::trouble::Trouble;
@@ -55,11 +56,11 @@ fn form(
             let answer = Boxed::new(alloc, answer)?;
             Ok(Ty::Proc(parameters_of(alloc, names, parameters)?, answer))
         }
-        (b"down", [first, count, answer]) => {
+        (b"down" | b"up" | b"pairs", [first, count, answer]) => {
             let answer = type_of(alloc, names, answer)?;
             let answer = Boxed::new(alloc, answer)?;
             Ok(Ty::Proc(
-                down_from(alloc, number_of(first)?, number_of(count)?)?,
+                row_of(alloc, word, number_of(first)?, number_of(count)?)?,
                 answer,
             ))
         }
@@ -84,12 +85,23 @@ fn types_of(alloc: Global, names: &Names, ds: &[Datum]) -> Result<Tys, Trouble> 
     Ok(types)
 }
 
-fn down_from(alloc: Global, first: u32, count: u32) -> Result<Tys, Trouble> {
+fn row_of(alloc: Global, word: &[u8], first: u32, count: u32) -> Result<Tys, Trouble> {
     let mut types = Items::new(alloc);
     for i in 0..count {
-        types.push(Ty::Var(first.saturating_sub(i)))?;
+        types.push(match word {
+            b"down" => Ty::Var(first.saturating_sub(i)),
+            b"up" => Ty::Var(first.saturating_add(i)),
+            _ => pair_of(alloc, first.saturating_add(i))?,
+        })?;
     }
     Ok(types)
+}
+
+fn pair_of(alloc: Global, variable: u32) -> Result<Ty, Trouble> {
+    let mut parameters = Items::new(alloc);
+    parameters.push(Ty::Var(variable))?;
+    parameters.push(Ty::Var(variable))?;
+    Ok(Ty::Proc(parameters, Boxed::new(alloc, Ty::Unit)?))
 }
 
 fn kind_of(alloc: Global, d: &Datum) -> Result<RecordKind, Trouble> {

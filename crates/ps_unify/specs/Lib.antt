@@ -1,0 +1,6 @@
+pub mod Bindings
+pub mod Unification
+pub mod Laws
+pub mod InsideBindings
+pub mod InsideShapes
+pub mod InsideSteps
