@@ -1,0 +1,12 @@
+pub mod Identifiers
+pub mod Meaning
+pub mod Matching
+pub mod Filling
+pub mod Transcribing
+pub mod Reading
+pub mod Surveys
+pub mod Templates
+pub mod Compiling
+pub mod Fitting
+pub mod Shapes
+pub mod Conversions
