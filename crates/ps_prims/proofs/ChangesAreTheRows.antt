@@ -75,20 +75,20 @@ module _ (ss : List Sort) (st : Stages) (does : Taking Value ss (Act Value (Unit
 
 module _ (vs : List Value) (m n : Memory Value) (stage : Stage) (old new : List Event) (o : PrimOut) where
   pub vector_set_changes : (p : Pointer) (k : ℤ) (x : Value) → vs ≡ value.Vector p ∷ value.Integer k ∷ x ∷ [] →
-      Changed o (put m p k x) (events.Put (plus p k) (word_of x)) stage m n old new → Changes o stage m n old new (perform_row first_order (row first_order prims.VectorSet) vs)
-  vector_set_changes p k x is h = changes_of (row first_order prims.VectorSet).operands (row first_order prims.VectorSet).stages (row first_order prims.VectorSet).does vs (value.Vector p ∷ value.Integer k ∷ x ∷ []) m n stage old new (λ m. put m p k x) (events.Put (plus p k) (word_of x)) o is refl h
+      Changed o (put m p k x) (events.Put (plus p k) (word_of x)) stage m n old new → Changes o stage m n old new (perform_row first_order (row first_order [] prims.VectorSet) vs)
+  vector_set_changes p k x is h = changes_of (row first_order [] prims.VectorSet).operands (row first_order [] prims.VectorSet).stages (row first_order [] prims.VectorSet).does vs (value.Vector p ∷ value.Integer k ∷ x ∷ []) m n stage old new (λ m. put m p k x) (events.Put (plus p k) (word_of x)) o is refl h
 
-  pub free_vector_changes : (p : Pointer) → vs ≡ value.Vector p ∷ [] → Changed o (store.release m p) (events.Free p) stage m n old new → Changes o stage m n old new (perform_row first_order (row first_order prims.DeallocateVector) vs)
-  free_vector_changes p is h = changes_of (row first_order prims.DeallocateVector).operands (row first_order prims.DeallocateVector).stages (row first_order prims.DeallocateVector).does vs (value.Vector p ∷ []) m n stage old new (λ m. store.release m p) (events.Free p) o is refl h
+  pub free_vector_changes : (p : Pointer) → vs ≡ value.Vector p ∷ [] → Changed o (store.release m p) (events.Free p) stage m n old new → Changes o stage m n old new (perform_row first_order (row first_order [] prims.DeallocateVector) vs)
+  free_vector_changes p is h = changes_of (row first_order [] prims.DeallocateVector).operands (row first_order [] prims.DeallocateVector).stages (row first_order [] prims.DeallocateVector).does vs (value.Vector p ∷ []) m n stage old new (λ m. store.release m p) (events.Free p) o is refl h
 
-  pub free_memory_changes : (p : Pointer) → vs ≡ value.Address p ∷ [] → Changed o (store.release m p) (events.Free p) stage m n old new → Changes o stage m n old new (perform_row first_order (row first_order prims.DeallocateMemory) vs)
-  free_memory_changes p is h = changes_of (row first_order prims.DeallocateMemory).operands (row first_order prims.DeallocateMemory).stages (row first_order prims.DeallocateMemory).does vs (value.Address p ∷ []) m n stage old new (λ m. store.release m p) (events.Free p) o is refl h
+  pub free_memory_changes : (p : Pointer) → vs ≡ value.Address p ∷ [] → Changed o (store.release m p) (events.Free p) stage m n old new → Changes o stage m n old new (perform_row first_order (row first_order [] prims.DeallocateMemory) vs)
+  free_memory_changes p is h = changes_of (row first_order [] prims.DeallocateMemory).operands (row first_order [] prims.DeallocateMemory).stages (row first_order [] prims.DeallocateMemory).does vs (value.Address p ∷ []) m n stage old new (λ m. store.release m p) (events.Free p) o is refl h
 
-  pub byte_set_changes : (p : Pointer) (i : ℤ) → vs ≡ value.Address p ∷ value.Integer i ∷ [] → Changed o (store.set_byte m p i) (events.Keep p i) stage m n old new → Changes o stage m n old new (perform_row first_order (row first_order prims.UnsignedByteSet) vs)
-  byte_set_changes p i is h = changes_of (row first_order prims.UnsignedByteSet).operands (row first_order prims.UnsignedByteSet).stages (row first_order prims.UnsignedByteSet).does vs (value.Address p ∷ value.Integer i ∷ []) m n stage old new (λ m. store.set_byte m p i) (events.Keep p i) o is refl h
+  pub byte_set_changes : (p : Pointer) (i : ℤ) → vs ≡ value.Address p ∷ value.Integer i ∷ [] → Changed o (store.set_byte m p i) (events.Keep p i) stage m n old new → Changes o stage m n old new (perform_row first_order (row first_order [] prims.UnsignedByteSet) vs)
+  byte_set_changes p i is h = changes_of (row first_order [] prims.UnsignedByteSet).operands (row first_order [] prims.UnsignedByteSet).stages (row first_order [] prims.UnsignedByteSet).does vs (value.Address p ∷ value.Integer i ∷ []) m n stage old new (λ m. store.set_byte m p i) (events.Keep p i) o is refl h
 
-  pub word_set_changes : (p : Pointer) (i : ℤ) → vs ≡ value.Address p ∷ value.Integer i ∷ [] → Changed o (store.set_word m p i) (events.KeepWord p i) stage m n old new → Changes o stage m n old new (perform_row first_order (row first_order prims.WordSet) vs)
-  word_set_changes p i is h = changes_of (row first_order prims.WordSet).operands (row first_order prims.WordSet).stages (row first_order prims.WordSet).does vs (value.Address p ∷ value.Integer i ∷ []) m n stage old new (λ m. store.set_word m p i) (events.KeepWord p i) o is refl h
+  pub word_set_changes : (p : Pointer) (i : ℤ) → vs ≡ value.Address p ∷ value.Integer i ∷ [] → Changed o (store.set_word m p i) (events.KeepWord p i) stage m n old new → Changes o stage m n old new (perform_row first_order (row first_order [] prims.WordSet) vs)
+  word_set_changes p i is h = changes_of (row first_order [] prims.WordSet).operands (row first_order [] prims.WordSet).stages (row first_order [] prims.WordSet).does vs (value.Address p ∷ value.Integer i ∷ []) m n stage old new (λ m. store.set_word m p i) (events.KeepWord p i) o is refl h
 
 -- ---- what may not be moved to may not be put to
 

@@ -9,3 +9,14 @@ pub mod MakesAreTheRows
 pub mod PerformsTheRow
 mod DivisionsAreRounded
 mod ShiftsRoundDown
+pub mod FieldsAreFilled
+pub mod ValuesAreCollected
+pub mod RecordsAreTheRows
+pub mod CellsAreCounted
+pub mod OperandsAreNatural
+pub mod ActsAreNatural
+pub mod RecordsAreNatural
+pub mod RowsAreNatural
+pub mod TextsAreLong
+pub mod OthersAskForNone
+pub mod OtherSchemesAreOfSorts

@@ -86,14 +86,14 @@ fixes_acts out.NoMemory of r m n w es h = ap (λ x. state x w es) h
 -- ---- the rows
 
 pub allocate_comes : (vs : List Value) (i : ℤ) (o : PrimOut) (old new : State) → vs ≡ value.Integer i ∷ [] →
-    Makes o (λ p. value.Address p) (store.allocate old.memory old.world i) (λ p. events.Allocate i p) old new → Comes o old new (perform_row first_order (row first_order prims.AllocateMemory) vs Run (record { memory = old.memory; world = old.world }))
+    Makes o (λ p. value.Address p) (store.allocate old.memory old.world i) (λ p. events.Allocate i p) old new → Comes o old new (perform_row first_order (row first_order [] prims.AllocateMemory) vs Run (record { memory = old.memory; world = old.world }))
 allocate_comes vs i o old new is h =
-    comes_of (row first_order prims.AllocateMemory) vs (value.Integer i ∷ []) Run old new (makes (λ m w. store.allocate m w i) (λ p. events.Allocate i p)) o is refl (makes_acts o (λ p. value.Address p) (λ m w. store.allocate m w i) (λ p. events.Allocate i p) old new h)
+    comes_of (row first_order [] prims.AllocateMemory) vs (value.Integer i ∷ []) Run old new (makes (λ m w. store.allocate m w i) (λ p. events.Allocate i p)) o is refl (makes_acts o (λ p. value.Address p) (λ m w. store.allocate m w i) (λ p. events.Allocate i p) old new h)
 
 pub vector_comes : (vs : List Value) (i : ℤ) (x : Value) (o : PrimOut) (old new : State) → vs ≡ value.Integer i ∷ x ∷ [] →
-    Makes o (λ p. value.Vector p) (store.allocate_cells old.memory old.world i (Some x)) (λ p. events.Fill i (word_of x) p) old new → Comes o old new (perform_row first_order (row first_order prims.MakeVector) vs Run (record { memory = old.memory; world = old.world }))
+    Makes o (λ p. value.Vector p) (store.allocate_cells old.memory old.world i (Some x)) (λ p. events.Fill i (word_of x) p) old new → Comes o old new (perform_row first_order (row first_order [] prims.MakeVector) vs Run (record { memory = old.memory; world = old.world }))
 vector_comes vs i x o old new is h =
-    comes_of (row first_order prims.MakeVector) vs (value.Integer i ∷ x ∷ []) Run old new (vector_of word_of i x) o is refl (makes_acts o (λ p. value.Vector p) (λ m w. store.allocate_cells m w i (Some x)) (λ p. events.Fill i (word_of x) p) old new h)
+    comes_of (row first_order [] prims.MakeVector) vs (value.Integer i ∷ x ∷ []) Run old new (vector_of word_of i x) o is refl (makes_acts o (λ p. value.Vector p) (λ m w. store.allocate_cells m w i (Some x)) (λ p. events.Fill i (word_of x) p) old new h)
 
 -- what a vector is at compile time
 vector_fixes : (i : ℤ) (x : Value) (s : State) → vector_of word_of i x Compile (record { memory = s.memory; world = s.world }) ≡ fixes_of s (vector_block i x)
@@ -105,9 +105,9 @@ vector_fixes (pos n) x s = go (is_size n)
 vector_fixes (negsuc n) x s = refl
 
 pub vector_comes_fixed : (vs : List Value) (i : ℤ) (x : Value) (o : PrimOut) (m n : Memory Value) (w : Surroundings) (es : List Event) → vs ≡ value.Integer i ∷ x ∷ [] →
-    Fixes o (λ p. value.Vector p) (vector_block i x) m n → Comes o (state m w es) (state n w es) (perform_row first_order (row first_order prims.MakeVector) vs Compile (record { memory = m; world = w }))
+    Fixes o (λ p. value.Vector p) (vector_block i x) m n → Comes o (state m w es) (state n w es) (perform_row first_order (row first_order [] prims.MakeVector) vs Compile (record { memory = m; world = w }))
 vector_comes_fixed vs i x o m n w es is h =
-    comes_of (row first_order prims.MakeVector) vs (value.Integer i ∷ x ∷ []) Compile (state m w es) (state n w es) (vector_of word_of i x) o is refl
+    comes_of (row first_order [] prims.MakeVector) vs (value.Integer i ∷ x ∷ []) Compile (state m w es) (state n w es) (vector_of word_of i x) o is refl
     (subst (λ r. Acts o (λ p. value.Vector p) Compile r (state m w es) (state n w es)) (sym (vector_fixes i x (state m w es))) (fixes_acts o (λ p. value.Vector p) (vector_block i x) m n w es h))
 
 -- what a string of two is
@@ -123,9 +123,9 @@ string_fixes p q s = go (store.text s.memory p) (store.text s.memory q)
     go (Err op) b = refl
 
 pub string_comes : (vs : List Value) (p q : Pointer) (o : PrimOut) (m n : Memory Value) (w : Surroundings) (es : List Event) → vs ≡ value.Text p ∷ value.Text q ∷ [] →
-    Fixes o (λ p. value.Text p) (string_block m p q) m n → Comes o (state m w es) (state n w es) (perform_row first_order (row first_order prims.StringAppend) vs Compile (record { memory = m; world = w }))
+    Fixes o (λ p. value.Text p) (string_block m p q) m n → Comes o (state m w es) (state n w es) (perform_row first_order (row first_order [] prims.StringAppend) vs Compile (record { memory = m; world = w }))
 string_comes vs p q o m n w es is h =
-    comes_of (row first_order prims.StringAppend) vs (value.Text p ∷ value.Text q ∷ []) Compile (state m w es) (state n w es) (appended p q) o is refl
+    comes_of (row first_order [] prims.StringAppend) vs (value.Text p ∷ value.Text q ∷ []) Compile (state m w es) (state n w es) (appended p q) o is refl
     (subst (λ r. Acts o (λ p. value.Text p) Compile r (state m w es) (state n w es)) (sym (string_fixes p q (state m w es))) (fixes_acts o (λ p. value.Text p) (string_block m p q) m n w es h))
 
 pub filled_is : {A : Type 0} (n : ℕ) (x : A) → map Some (replicate n x) ≡ replicate n (Some x)
@@ -140,9 +140,9 @@ copies_act out.Wrong of look stage s f = absurd f
 copies_act out.NoMemory of look stage s f = refl
 
 pub string_equal_comes : (vs : List Value) (p q : Pointer) (o : PrimOut) (stage : Stage) (m : Memory Value) (w : Surroundings) (es : List Event) → vs ≡ value.Text p ∷ value.Text q ∷ [] →
-    FoundInCopies o (equal_texts m p q) (λ b. value.Boolean b) → Comes o (state m w es) (state m w es) (perform_row first_order (row first_order prims.StringEqual) vs stage (record { memory = m; world = w }))
+    FoundInCopies o (equal_texts m p q) (λ b. value.Boolean b) → Comes o (state m w es) (state m w es) (perform_row first_order (row first_order [] prims.StringEqual) vs stage (record { memory = m; world = w }))
 string_equal_comes vs p q o stage m w es is found =
-    comes_of (row first_order prims.StringEqual) vs (value.Text p ∷ value.Text q ∷ []) stage (state m w es) (state m w es) (finds (λ m. equal_texts m p q) (λ x. unseen x)) o is refl (copies_act o (λ b. value.Boolean b) (λ m. equal_texts m p q) stage (state m w es) found)
+    comes_of (row first_order [] prims.StringEqual) vs (value.Text p ∷ value.Text q ∷ []) stage (state m w es) (state m w es) (finds (λ m. equal_texts m p q) (λ x. unseen x)) o is refl (copies_act o (λ b. value.Boolean b) (λ m. equal_texts m p q) stage (state m w es) found)
 
 -- where a block is made there is a number for it
 pub room_for_block : (stage : Stage) (m : Memory Value) → HasRoom Blocks stage m → HasNumber stage m

@@ -31,8 +31,8 @@ no_values (v ∷ vs) is = absurd (let clash : false ≡ true = is in cc)
 
 pub reads_comes : (vs : List Value) (stage : Stage) (o : PrimOut) (m : Memory Value) (w w' : Surroundings) (old new : List Event) → fits first_order [] vs ≡ true →
     ((m : Memory Value) → Acts o (λ i. value.Integer i) stage (reads stage (record { memory = m; world = w })) (state m w old) (state m w' new)) →
-    Comes o (state m w old) (state m w' new) (perform_row first_order (row first_order prims.ReadByte) vs stage (record { memory = m; world = w }))
-reads_comes vs stage o m w w' old new is h = comes_of (row first_order prims.ReadByte) vs [] stage (state m w old) (state m w' new) reads o (no_values vs is) refl (h m)
+    Comes o (state m w old) (state m w' new) (perform_row first_order (row first_order [] prims.ReadByte) vs stage (record { memory = m; world = w }))
+reads_comes vs stage o m w w' old new is h = comes_of (row first_order [] prims.ReadByte) vs [] stage (state m w old) (state m w' new) reads o (no_values vs is) refl (h m)
 
 written : (o : PrimOut) (i : ℤ) (stage : Stage) (m : Memory Value) (w : Surroundings) (old new : List Event) →
     Found o (byte_of i) (λ b. value.Unit) (λ b. events.Output b ∷ []) stage old new → Acts o (λ (u : Unit {0}). value.Unit) stage (writes i stage (record { memory = m; world = w })) (state m w old) (state m w new)
@@ -42,8 +42,8 @@ written out.Wrong i stage m w old new h = absurd h
 written out.NoMemory i stage m w old new h = ap (λ es. state m w es) h.1
 
 pub writes_comes : (vs : List Value) (i : ℤ) (stage : Stage) (o : PrimOut) (m : Memory Value) (w : Surroundings) (old new : List Event) → vs ≡ value.Integer i ∷ [] →
-    Found o (byte_of i) (λ b. value.Unit) (λ b. events.Output b ∷ []) stage old new → Comes o (state m w old) (state m w new) (perform_row first_order (row first_order prims.WriteByte) vs stage (record { memory = m; world = w }))
-writes_comes vs i stage o m w old new is h = comes_of (row first_order prims.WriteByte) vs (value.Integer i ∷ []) stage (state m w old) (state m w new) (writes i) o is refl (written o i stage m w old new h)
+    Found o (byte_of i) (λ b. value.Unit) (λ b. events.Output b ∷ []) stage old new → Comes o (state m w old) (state m w new) (perform_row first_order (row first_order [] prims.WriteByte) vs stage (record { memory = m; world = w }))
+writes_comes vs i stage o m w old new is h = comes_of (row first_order [] prims.WriteByte) vs (value.Integer i ∷ []) stage (state m w old) (state m w new) (writes i) o is refl (written o i stage m w old new h)
 
 -- what is quiet comes without a change
 pub quiet_comes : (r : Row Value) (vs : List Value) (o : PrimOut) (stage : Stage) (m : Memory Value) (w : Surroundings) (es : List Event) → Quiet o (perform_row first_order r vs) → Comes o (state m w es) (state m w es) (perform_row first_order r vs stage (record { memory = m; world = w }))

@@ -52,9 +52,9 @@ quiet_comparison f vs i j b is told = subst (λ c. Quiet (out.Value (value.Boole
 pub quiet_test : (f : ℤ → Bool) (vs : List Value) (i : ℤ) (b : Bool) → vs ≡ value.Integer i ∷ [] → b ≡ f i → Quiet (out.Value (value.Boolean b)) (perform_row first_order (test first_order f) vs)
 quiet_test f vs i b is told = subst (λ c. Quiet (out.Value (value.Boolean c)) (perform_row first_order (test first_order f) vs)) (sym told) (quiet_gives (test first_order f) vs (f i) (ap (applied first_order (Integer ∷ []) (λ i. gives (f i))) is))
 
-pub quiet_ascii : (vs : List Value) (i : ℤ) (o : PrimOut) → vs ≡ value.Integer i ∷ [] → o ≡ char_out (char_of i) → Quiet o (perform_row first_order (row first_order prims.AsciiToChar) vs)
-quiet_ascii vs i o is told = subst (λ p. Quiet p (perform_row first_order (row first_order prims.AsciiToChar) vs)) (sym told) (go (char_of i) refl)
+pub quiet_ascii : (vs : List Value) (i : ℤ) (o : PrimOut) → vs ≡ value.Integer i ∷ [] → o ≡ char_out (char_of i) → Quiet o (perform_row first_order (row first_order [] prims.AsciiToChar) vs)
+quiet_ascii vs i o is told = subst (λ p. Quiet p (perform_row first_order (row first_order [] prims.AsciiToChar) vs)) (sym told) (go (char_of i) refl)
   where
-    go : (a : Result ℕ Op) → char_of i ≡ a → Quiet (char_out a) (perform_row first_order (row first_order prims.AsciiToChar) vs)
-    go (Ok n) e = quiet_ok (row first_order prims.AsciiToChar) vs n (char_of i) (ap (applied first_order (Integer ∷ []) (λ i. answers (char_of i))) is) e
-    go (Err op) e = quiet_err (row first_order prims.AsciiToChar) vs op (char_of i) (ap (applied first_order (Integer ∷ []) (λ i. answers (char_of i))) is) e
+    go : (a : Result ℕ Op) → char_of i ≡ a → Quiet (char_out a) (perform_row first_order (row first_order [] prims.AsciiToChar) vs)
+    go (Ok n) e = quiet_ok (row first_order [] prims.AsciiToChar) vs n (char_of i) (ap (applied first_order (Integer ∷ []) (λ i. answers (char_of i))) is) e
+    go (Err op) e = quiet_err (row first_order [] prims.AsciiToChar) vs op (char_of i) (ap (applied first_order (Integer ∷ []) (λ i. answers (char_of i))) is) e

@@ -40,9 +40,9 @@ pub record Divided (n1 n2 q r m : ℤ) : Type 0 where
 abbrev pub HasNoQuotient : ℤ → ℤ → Type 0
 HasNoQuotient n1 n2 = (n2 ≡ pos 0) ⊎ ((n1 ≡ negsuc 9223372036854775807) × (n2 ≡ negsuc 0))
 
--- the row of this name, at two integers
+-- the row of this name, at two integers; the kinds of records have nothing to do with it
 abbrev pub at_integers : PrimName → ℤ → ℤ → Stage → Scene Value → Performed Value
-at_integers p n1 n2 stage s = perform first_order p (value.Integer n1 ∷ value.Integer n2 ∷ []) stage s
+at_integers p n1 n2 stage s = perform first_order [] p (value.Integer n1 ∷ value.Integer n2 ∷ []) stage s
 
 -- an integer, and nothing is changed or seen
 abbrev pub answers_integer : ℤ → Scene Value → Performed Value

@@ -34,6 +34,9 @@ need prims.MakeVector = Blocks
 need prims.AllocateMemory = Blocks
 need prims.StringAppend = Blocks
 need prims.StringEqual = Blocks
+need (prims.Maker k) = Blocks
+need (prims.Accessor k f) = Events
+need (prims.Modifier k f) = Events
 need p = Nothing
 
 abbrev pub Takes : Need → Stage → Type 0

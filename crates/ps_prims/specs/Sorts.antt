@@ -2,9 +2,9 @@
 --
 -- A row is about some type V of values. `Values` says which of them are values of first order, and which word is shown of
 -- each; the values of a program at compile time are of first order alone.
-use Rattle.std.specs.Prelude.{ℕ, ℤ, Bool, true, false, ◌&&◌, List, [], ◌∷◌, Option, Some, None, is_some}
+use Rattle.std.specs.Prelude.{ℕ, ℤ, Bool, true, false, ◌&&◌, nat_eq, if◌then◌else◌, List, [], ◌∷◌, Option, Some, None, is_some}
 pub use Rattle.ps_prims.specs.declared.sorts.Sort.{Sort}
-pub use Rattle.ps_prims.specs.declared.sorts.Sort.TheVariants.{Integer, Boolean, Char, Unit as Unit', Address, Text, Vector, Any}
+pub use Rattle.ps_prims.specs.declared.sorts.Sort.TheVariants.{Integer, Boolean, Char, Unit as Unit', Address, Text, Vector, Record, Any}
 use Rattle.byte_store.specs.declared.pointer.Pointer.{Pointer}
 use Rattle.byte_store.specs.declared.pointer.Word.{Word}
 use Rattle.byte_store.specs.declared.pointer.Value.{Value}
@@ -31,6 +31,7 @@ Meant V Unit' = Unit {0}
 Meant V Address = Pointer
 Meant V Text = Pointer
 Meant V Vector = Pointer
+Meant V (Record k) = Pointer
 Meant V Any = V
 
 abbrev pub as_integer : Value → Option ℤ
@@ -103,6 +104,17 @@ as_vector (value.Text p) = None
 as_vector (value.Vector p) = Some p
 as_vector (value.Tuple k p) = None
 
+-- the pointer of a record of a kind
+abbrev pub as_record : ℕ → Value → Option Pointer
+as_record k (value.Integer i) = None
+as_record k (value.Boolean b) = None
+as_record k (value.Char c) = None
+as_record k value.Unit = None
+as_record k (value.Address p) = None
+as_record k (value.Text p) = None
+as_record k (value.Vector p) = None
+as_record k (value.Tuple j p) = if nat_eq j k then Some p else None
+
 module _ {V : Type 0} (values : Values V) where
   abbrev pub and_seen : {A : Type 0} → Option Value → (Value → Option A) → Option A
   and_seen None f = None
@@ -117,6 +129,7 @@ module _ {V : Type 0} (values : Values V) where
   read Address v = and_seen (values.seen v) as_address
   read Text v = and_seen (values.seen v) as_text
   read Vector v = and_seen (values.seen v) as_vector
+  read (Record k) v = and_seen (values.seen v) (as_record k)
   read Any v = Some v
 
   -- the value that an answer of a sort is
@@ -128,6 +141,7 @@ module _ {V : Type 0} (values : Values V) where
   answered Address p = values.of (value.Address p)
   answered Text p = values.of (value.Text p)
   answered Vector p = values.of (value.Vector p)
+  answered (Record k) p = values.of (value.Tuple k p)
   answered Any v = v
 
 -- A function of operands of some sorts, one after another.
@@ -146,6 +160,11 @@ module _ {V R : Type 0} (values : Values V) where
   applied [] r (v ∷ vs) = None
   applied (s ∷ ss) f [] = None
   applied (s ∷ ss) f (v ∷ vs) = and_takes (read values s v) (λ x. applied ss (f x) vs)
+
+  -- such a function that takes the values themselves
+  abbrev pub collecting : (ss : List Sort) → (List V → R) → Taking V ss R
+  collecting [] f = f []
+  collecting (s ∷ ss) f = λ x. collecting ss (λ vs. f (answered values s x ∷ vs))
 
 module _ {V : Type 0} (values : Values V) where
   -- so many values, each of its sort

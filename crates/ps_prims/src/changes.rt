@@ -1,5 +1,6 @@
 //! Primitives that change the memory.
 
+ghost use Rattle.std.specs.Prelude.{[]};
 ghost use Rattle.byte_store.specs.declared.event.Event.TheVariants as Event;
 ghost use Rattle.byte_store.specs.Operations.{plus, put, release, set_byte, set_word};
 ghost use Rattle.byte_store.specs.Words.{word_of};
@@ -104,8 +105,9 @@ fn put_at<A: Allocator + Copy>(
     }
 }
 
+/// Puts a value so much further on than a pointer in a block of cells.
 #[tactic(auto, using(crate::proofs::ChangesAreTheRows::put_is_further, crate::proofs::WhatIsReadIsAPlace::moved_is_plus))]
-fn change_cell<A: Allocator + Copy>(
+pub fn change_cell<A: Allocator + Copy>(
     p: Pointer,
     k: i64,
     x: Value,
@@ -128,7 +130,7 @@ fn perform_vector_set<A: Allocator + Copy>(
     store: &mut Store<Value, A>,
     events: &mut Events,
 ) -> PrimOut
-    ensures { Changes result stage store.old store.new events.old events.new (perform_row first_order (row first_order PrimName.VectorSet) args.now) }
+    ensures { Changes result stage store.old store.new events.old events.new (perform_row first_order (row first_order [] PrimName.VectorSet) args.now) }
 {
     match vector_integer_any(args) {
         Some((p, k, x)) => change_cell(p, k, x, stage, store, events),
@@ -143,7 +145,7 @@ fn perform_deallocate_vector<A: Allocator + Copy>(
     store: &mut Store<Value, A>,
     events: &mut Events,
 ) -> PrimOut
-    ensures { Changes result stage store.old store.new events.old events.new (perform_row first_order (row first_order PrimName.DeallocateVector) args.now) }
+    ensures { Changes result stage store.old store.new events.old events.new (perform_row first_order (row first_order [] PrimName.DeallocateVector) args.now) }
 {
     match one_vector(args) {
         Some(p) => change_block(p, stage, store, events),
@@ -158,7 +160,7 @@ fn perform_deallocate_memory<A: Allocator + Copy>(
     store: &mut Store<Value, A>,
     events: &mut Events,
 ) -> PrimOut
-    ensures { Changes result stage store.old store.new events.old events.new (perform_row first_order (row first_order PrimName.DeallocateMemory) args.now) }
+    ensures { Changes result stage store.old store.new events.old events.new (perform_row first_order (row first_order [] PrimName.DeallocateMemory) args.now) }
 {
     match one_address(args) {
         Some(p) => change_block(p, stage, store, events),
@@ -173,7 +175,7 @@ fn perform_byte_set<A: Allocator + Copy>(
     store: &mut Store<Value, A>,
     events: &mut Events,
 ) -> PrimOut
-    ensures { Changes result stage store.old store.new events.old events.new (perform_row first_order (row first_order PrimName.UnsignedByteSet) args.now) }
+    ensures { Changes result stage store.old store.new events.old events.new (perform_row first_order (row first_order [] PrimName.UnsignedByteSet) args.now) }
 {
     match address_and_integer(args) {
         Some((p, byte)) => change_byte(p, byte, stage, store, events),
@@ -188,7 +190,7 @@ fn perform_word_set<A: Allocator + Copy>(
     store: &mut Store<Value, A>,
     events: &mut Events,
 ) -> PrimOut
-    ensures { Changes result stage store.old store.new events.old events.new (perform_row first_order (row first_order PrimName.WordSet) args.now) }
+    ensures { Changes result stage store.old store.new events.old events.new (perform_row first_order (row first_order [] PrimName.WordSet) args.now) }
 {
     match address_and_integer(args) {
         Some((p, word)) => change_word(p, word, stage, store, events),

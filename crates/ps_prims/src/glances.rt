@@ -1,5 +1,6 @@
 //! Primitives that look at the memory, which is not seen from outside.
 
+ghost use Rattle.std.specs.Prelude.{◌≡◌, []};
 ghost use Rattle.byte_store.specs.declared.pointer.Value.TheVariants as Value;
 ghost use Rattle.byte_store.specs.Operations.{before, cell_count, difference, is_null, moved, same};
 ghost use Rattle.ps_base.specs.declared.language.PrimName.TheVariants as PrimName;
@@ -83,7 +84,7 @@ fn found_vector_length<A: Allocator + Copy>(p: Pointer, store: &Store<Value, A>)
 
 #[tactic(auto, using(crate::proofs::LooksAreTheRows::is_null_vector_looks, crate::proofs::LooksChangeNothing::looks_quietly_wrong))]
 fn perform_is_null_vector<A: Allocator + Copy>(args: &[Value], store: &Store<Value, A>) -> PrimOut
-    ensures { LooksQuietly result store.now (perform_row first_order (row first_order PrimName.IsNullVector) args.now) }
+    ensures { LooksQuietly result store.now (perform_row first_order (row first_order [] PrimName.IsNullVector) args.now) }
 {
     match one_vector(args) {
         Some(p) => found_is_null(p, store),
@@ -93,7 +94,7 @@ fn perform_is_null_vector<A: Allocator + Copy>(args: &[Value], store: &Store<Val
 
 #[tactic(auto, using(crate::proofs::LooksAreTheRows::is_null_address_looks, crate::proofs::LooksChangeNothing::looks_quietly_wrong))]
 fn perform_is_null_address<A: Allocator + Copy>(args: &[Value], store: &Store<Value, A>) -> PrimOut
-    ensures { LooksQuietly result store.now (perform_row first_order (row first_order PrimName.IsNullAddress) args.now) }
+    ensures { LooksQuietly result store.now (perform_row first_order (row first_order [] PrimName.IsNullAddress) args.now) }
 {
     match one_address(args) {
         Some(p) => found_is_null(p, store),
@@ -103,7 +104,7 @@ fn perform_is_null_address<A: Allocator + Copy>(args: &[Value], store: &Store<Va
 
 #[tactic(auto, using(crate::proofs::LooksAreTheRows::address_add_looks, crate::proofs::LooksChangeNothing::looks_quietly_wrong))]
 fn perform_address_add<A: Allocator + Copy>(args: &[Value], store: &Store<Value, A>) -> PrimOut
-    ensures { LooksQuietly result store.now (perform_row first_order (row first_order PrimName.AddressAdd) args.now) }
+    ensures { LooksQuietly result store.now (perform_row first_order (row first_order [] PrimName.AddressAdd) args.now) }
 {
     match address_and_integer(args) {
         Some((p, k)) => found_address_add(p, k, store),
@@ -116,7 +117,7 @@ fn perform_address_difference<A: Allocator + Copy>(
     args: &[Value],
     store: &Store<Value, A>,
 ) -> PrimOut
-    ensures { LooksQuietly result store.now (perform_row first_order (row first_order PrimName.AddressDifference) args.now) }
+    ensures { LooksQuietly result store.now (perform_row first_order (row first_order [] PrimName.AddressDifference) args.now) }
 {
     match two_addresses(args) {
         Some((p, q)) => found_address_difference(p, q, store),
@@ -126,7 +127,7 @@ fn perform_address_difference<A: Allocator + Copy>(
 
 #[tactic(auto, using(crate::proofs::LooksAreTheRows::address_equal_looks, crate::proofs::LooksChangeNothing::looks_quietly_wrong))]
 fn perform_address_equal<A: Allocator + Copy>(args: &[Value], store: &Store<Value, A>) -> PrimOut
-    ensures { LooksQuietly result store.now (perform_row first_order (row first_order PrimName.AddressEqual) args.now) }
+    ensures { LooksQuietly result store.now (perform_row first_order (row first_order [] PrimName.AddressEqual) args.now) }
 {
     match two_addresses(args) {
         Some((p, q)) => found_address_equal(p, q, store),
@@ -136,7 +137,7 @@ fn perform_address_equal<A: Allocator + Copy>(args: &[Value], store: &Store<Valu
 
 #[tactic(auto, using(crate::proofs::LooksAreTheRows::address_less_looks, crate::proofs::LooksChangeNothing::looks_quietly_wrong))]
 fn perform_address_less<A: Allocator + Copy>(args: &[Value], store: &Store<Value, A>) -> PrimOut
-    ensures { LooksQuietly result store.now (perform_row first_order (row first_order PrimName.AddressLess) args.now) }
+    ensures { LooksQuietly result store.now (perform_row first_order (row first_order [] PrimName.AddressLess) args.now) }
 {
     match two_addresses(args) {
         Some((p, q)) => found_address_less(p, q, store),
@@ -146,7 +147,7 @@ fn perform_address_less<A: Allocator + Copy>(args: &[Value], store: &Store<Value
 
 #[tactic(auto, using(crate::proofs::LooksAreTheRows::vector_length_looks, crate::proofs::LooksChangeNothing::looks_quietly_wrong))]
 fn perform_vector_length<A: Allocator + Copy>(args: &[Value], store: &Store<Value, A>) -> PrimOut
-    ensures { LooksQuietly result store.now (perform_row first_order (row first_order PrimName.VectorLength) args.now) }
+    ensures { LooksQuietly result store.now (perform_row first_order (row first_order [] PrimName.VectorLength) args.now) }
 {
     match one_vector(args) {
         Some(p) => found_vector_length(p, store),

@@ -1,6 +1,7 @@
 //! The primitives in groups that are performed alike.
 
-ghost use Rattle.std.specs.Prelude.{◌≡◌};
+ghost use Rattle.std.specs.Prelude.{◌≡◌, List};
+ghost use Rattle.ps_types.specs.declared.types.RecordKind.{RecordKind as KindSpec};
 ghost use Rattle.ps_prims.specs.Sorts.{first_order};
 ghost use Rattle.ps_prims.specs.Rows.{row};
 ghost use Rattle.ps_prims.specs.Needs.{need};
@@ -22,6 +23,7 @@ pub enum Group {
     Glance(Glance),
     Change(Change),
     Make(Make),
+    OnRecord(OnRecord),
     ReadByte,
     WriteByte,
 }
@@ -81,9 +83,18 @@ pub enum Make {
     StringEqual,
 }
 
+/// A primitive of the records of a kind, and of a field of them.
+#[derive(Clone, Copy)]
+pub enum OnRecord {
+    Maker(u32),
+    Predicate(u32),
+    Accessor(u32, u32),
+    Modifier(u32, u32),
+}
+
 /// The group of a primitive.
 pub fn group_of(p: Prim) -> Group
-    ensures row { row first_order p ≡ group_row result }
+    ensures row { (kinds : List KindSpec) → row first_order kinds p ≡ group_row kinds result }
     ensures need { need p ≡ group_need result }
 {
     match p {
@@ -139,9 +150,9 @@ pub fn group_of(p: Prim) -> Group
         Prim::StringAppend => Group::Make(Make::String),
         Prim::StringEqual => Group::Make(Make::StringEqual),
         Prim::VectorLength => Group::Glance(Glance::VectorLength),
-        Prim::Maker(_) => Group::Plain(Plain::Unspecific),
-        Prim::Predicate(_) => Group::Plain(Plain::Unspecific),
-        Prim::Accessor(_, _) => Group::Plain(Plain::Unspecific),
-        Prim::Modifier(_, _) => Group::Plain(Plain::Unspecific),
+        Prim::Maker(k) => Group::OnRecord(OnRecord::Maker(k)),
+        Prim::Predicate(k) => Group::OnRecord(OnRecord::Predicate(k)),
+        Prim::Accessor(k, f) => Group::OnRecord(OnRecord::Accessor(k, f)),
+        Prim::Modifier(k, f) => Group::OnRecord(OnRecord::Modifier(k, f)),
     }
 }

@@ -44,7 +44,7 @@ fn perform_string_length<A: Allocator + Copy>(
     store: &Store<Value, A>,
     events: &mut Events,
 ) -> PrimOut
-    ensures { Looks result stage store.now events.old events.new (perform_row first_order (row first_order PrimName.StringLength) args.now) }
+    ensures { Looks result stage store.now events.old events.new (perform_row first_order (row first_order [] PrimName.StringLength) args.now) }
 {
     match one_text(args) {
         Some(p) => found_string_length(p, stage, store, events),
@@ -59,7 +59,7 @@ fn perform_string_ref<A: Allocator + Copy>(
     store: &Store<Value, A>,
     events: &mut Events,
 ) -> PrimOut
-    ensures { Looks result stage store.now events.old events.new (perform_row first_order (row first_order PrimName.StringRef) args.now) }
+    ensures { Looks result stage store.now events.old events.new (perform_row first_order (row first_order [] PrimName.StringRef) args.now) }
 {
     match text_and_integer(args) {
         Some((p, k)) => found_string_ref(p, k, stage, store, events),
@@ -74,7 +74,7 @@ fn perform_vector_ref<A: Allocator + Copy>(
     store: &Store<Value, A>,
     events: &mut Events,
 ) -> PrimOut
-    ensures { Looks result stage store.now events.old events.new (perform_row first_order (row first_order PrimName.VectorRef) args.now) }
+    ensures { Looks result stage store.now events.old events.new (perform_row first_order (row first_order [] PrimName.VectorRef) args.now) }
 {
     match vector_and_integer(args) {
         Some((p, k)) => found_vector_ref(p, k, stage, store, events),
@@ -104,7 +104,7 @@ fn perform_byte_ref<A: Allocator + Copy>(
     store: &Store<Value, A>,
     events: &mut Events,
 ) -> PrimOut
-    ensures { Looks result stage store.now events.old events.new (perform_row first_order (row first_order PrimName.UnsignedByteRef) args.now) }
+    ensures { Looks result stage store.now events.old events.new (perform_row first_order (row first_order [] PrimName.UnsignedByteRef) args.now) }
 {
     match one_address(args) {
         Some(p) => found_byte_ref(p, stage, store, events),
@@ -134,7 +134,7 @@ fn perform_word_ref<A: Allocator + Copy>(
     store: &Store<Value, A>,
     events: &mut Events,
 ) -> PrimOut
-    ensures { Looks result stage store.now events.old events.new (perform_row first_order (row first_order PrimName.WordRef) args.now) }
+    ensures { Looks result stage store.now events.old events.new (perform_row first_order (row first_order [] PrimName.WordRef) args.now) }
 {
     match one_address(args) {
         Some(p) => found_word_ref(p, stage, store, events),
@@ -171,8 +171,9 @@ fn found_string_ref<A: Allocator + Copy>(
     }
 }
 
+/// What stands so much further on than a pointer in a block of cells.
 #[tactic(auto, using(crate::proofs::LooksChangeNothing::found_told, crate::proofs::WhatIsReadIsAPlace::get_is_further, crate::proofs::WhatIsReadIsAPlace::moved_is_plus))]
-fn found_vector_ref<A: Allocator + Copy>(
+pub fn found_vector_ref<A: Allocator + Copy>(
     p: Pointer,
     k: i64,
     stage: Stage,

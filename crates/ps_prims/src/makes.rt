@@ -89,8 +89,12 @@ fn make_cells<A: Allocator + Copy>(
     }
 }
 
-// So many values, each the same. Memory for all is asked for at once.
-fn filled(alloc: Global, fill: Value, count: usize) -> Result<Items<Value>, NoMemory>
+/// So many values, each the same. Memory for all is asked for at once.
+///
+/// # Errors
+///
+/// `NoMemory` where it runs out.
+pub fn filled(alloc: Global, fill: Value, count: usize) -> Result<Items<Value>, NoMemory>
     ensures { IfOk result (λ all. all ≡ replicate count fill) }
 {
     let mut all = Vec::with_capacity(alloc, count)?;
@@ -171,7 +175,7 @@ fn perform_make_vector<A: Allocator + Copy>(
     events: &mut Events,
 ) -> PrimOut
     requires room { HasNumber stage store.old }
-    ensures { Comes result (state store.old world.old events.old) (state store.new world.new events.new) (perform_row first_order (row first_order PrimName.MakeVector) args.now stage (record { memory = store.old; world = world.old })) }
+    ensures { Comes result (state store.old world.old events.old) (state store.new world.new events.new) (perform_row first_order (row first_order [] PrimName.MakeVector) args.now stage (record { memory = store.old; world = world.old })) }
 {
     let Some((count, fill)) = integer_and_any(args) else {
         return PrimOut::Wrong;
@@ -190,7 +194,7 @@ fn perform_allocate_memory<A: Allocator + Copy>(
     events: &mut Events,
 ) -> PrimOut
     requires room { length store.old.made < 4294967295 }
-    ensures { Comes result (state store.old world.old events.old) (state store.new world.new events.new) (perform_row first_order (row first_order PrimName.AllocateMemory) args.now Stage.Run (record { memory = store.old; world = world.old })) }
+    ensures { Comes result (state store.old world.old events.old) (state store.new world.new events.new) (perform_row first_order (row first_order [] PrimName.AllocateMemory) args.now Stage.Run (record { memory = store.old; world = world.old })) }
 {
     match one_integer(args) {
         Some(size) => make_bytes(size, store, world, events),
@@ -205,7 +209,7 @@ fn perform_string_append<A: Allocator + Copy>(
     store: &mut Store<Value, A>,
 ) -> PrimOut
     requires room { next_number store.old.fixed < 4294967295 }
-    ensures { (world : Surroundings) (events : List EventSpec) → Comes result (state store.old world events) (state store.new world events) (perform_row first_order (row first_order PrimName.StringAppend) args.now Stage.Compile (record { memory = store.old; world = world })) }
+    ensures { (world : Surroundings) (events : List EventSpec) → Comes result (state store.old world events) (state store.new world events) (perform_row first_order (row first_order [] PrimName.StringAppend) args.now Stage.Compile (record { memory = store.old; world = world })) }
 {
     match two_texts(args) {
         Some((p, q)) => fix_string(alloc, p, q, store),
@@ -238,7 +242,7 @@ fn perform_string_equal<A: Allocator + Copy>(
     args: &[Value],
     store: &Store<Value, A>,
 ) -> PrimOut
-    ensures { (stage : StageSpec) (world : Surroundings) (events : List EventSpec) → Comes result (state store.now world events) (state store.now world events) (perform_row first_order (row first_order PrimName.StringEqual) args.now stage (record { memory = store.now; world = world })) }
+    ensures { (stage : StageSpec) (world : Surroundings) (events : List EventSpec) → Comes result (state store.now world events) (state store.now world events) (perform_row first_order (row first_order [] PrimName.StringEqual) args.now stage (record { memory = store.now; world = world })) }
 {
     match two_texts(args) {
         Some((p, q)) => found_string_equal(alloc, p, q, store),

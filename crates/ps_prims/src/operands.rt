@@ -1,10 +1,11 @@
 //! Operands of primitives, taken by their sorts. Each function answers none where the number or the sorts of the operands
 //! are others.
 
-ghost use Rattle.std.specs.Prelude.{◌≡◌, ◌≢◌, [], ◌∷◌, false, length, MatchOption};
+ghost use Rattle.std.specs.Prelude.{◌≡◌, ◌≢◌, [], ◌∷◌, true, false, length, is_some, MatchOption};
 ghost use Rattle.byte_store.specs.declared.pointer.Value.TheVariants as value;
-ghost use Rattle.ps_prims.specs.Sorts.{as_address, as_boolean, as_char, as_integer, as_text, as_vector, first_order, fits, Address as AddressSort, Any as AnySort, Boolean as BooleanSort, Char as CharSort, Integer as IntegerSort, Text as TextSort, Vector as VectorSort};
+ghost use Rattle.ps_prims.specs.Sorts.{as_address, as_boolean, as_char, as_integer, as_record, as_text, as_unit, as_vector, first_order, fits, read, Address as AddressSort, Any as AnySort, Boolean as BooleanSort, Char as CharSort, Integer as IntegerSort, Record as RecordSort, Text as TextSort, Vector as VectorSort};
 
+use crate::sorts::Sort;
 use byte_store::{Pointer, Value};
 
 fn one(args: &[Value]) -> Option<Value>
@@ -79,6 +80,21 @@ fn character(v: Value) -> Option<u8>
     }
 }
 
+fn is_unit(v: Value) -> bool
+    ensures { result ≡ is_some (as_unit v) }
+{
+    match v {
+        Value::Integer(_) => false,
+        Value::Boolean(_) => false,
+        Value::Char(_) => false,
+        Value::Unit => true,
+        Value::Address(_) => false,
+        Value::Text(_) => false,
+        Value::Vector(_) => false,
+        Value::Tuple(_, _) => false,
+    }
+}
+
 fn address(v: Value) -> Option<Pointer>
     ensures { result ≡ as_address v }
 {
@@ -121,6 +137,38 @@ fn vector(v: Value) -> Option<Pointer>
         Value::Text(_) => None,
         Value::Vector(p) => Some(p),
         Value::Tuple(_, _) => None,
+    }
+}
+
+fn record(k: u32, v: Value) -> Option<Pointer>
+    ensures { result ≡ as_record k v }
+{
+    match v {
+        Value::Integer(_) => None,
+        Value::Boolean(_) => None,
+        Value::Char(_) => None,
+        Value::Unit => None,
+        Value::Address(_) => None,
+        Value::Text(_) => None,
+        Value::Vector(_) => None,
+        Value::Tuple(kind, p) => { if kind == k { Some(p) } else { None } }
+    }
+}
+
+/// Whether a value is of a sort.
+pub fn is_of(v: Value, sort: Sort) -> bool
+    ensures { result ≡ is_some (read first_order sort v) }
+{
+    match sort {
+        Sort::Integer => integer(v).is_some(),
+        Sort::Boolean => boolean(v).is_some(),
+        Sort::Char => character(v).is_some(),
+        Sort::Unit => is_unit(v),
+        Sort::Address => address(v).is_some(),
+        Sort::Text => text(v).is_some(),
+        Sort::Vector => vector(v).is_some(),
+        Sort::Record(k) => record(k, v).is_some(),
+        Sort::Any => true,
     }
 }
 
@@ -267,4 +315,22 @@ pub fn no_operand(args: &[Value]) -> bool
     ensures { result ≡ fits first_order [] args.now }
 {
     args.is_empty()
+}
+
+/// A record of a kind.
+#[tactic(auto, using(crate::proofs::OtherNumbersFitNoRow::other_number))]
+pub fn one_record(k: u32, args: &[Value]) -> Option<Pointer>
+    ensures { MatchOption result (fits first_order (RecordSort k ∷ []) args.now ≡ false) (λ r. args.now ≡ value.Tuple k r ∷ []) }
+{
+    record(k, one(args)?)
+}
+
+/// A record of a kind and a value of a sort.
+#[tactic(auto, using(crate::proofs::OtherNumbersFitNoRow::other_number))]
+pub fn record_and_value(k: u32, sort: Sort, args: &[Value]) -> Option<(Pointer, Value)>
+    ensures { MatchOption result (fits first_order (RecordSort k ∷ sort ∷ []) args.now ≡ false) (λ r. (args.now ≡ value.Tuple k r.0 ∷ r.1 ∷ []) × (is_some (read first_order sort r.1) ≡ true)) }
+{
+    let (v, w) = two(args)?;
+    let p = record(k, v)?;
+    if is_of(w, sort) { Some((p, w)) } else { None }
 }

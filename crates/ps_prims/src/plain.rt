@@ -1,6 +1,6 @@
 //! Primitives that see nothing but their operands.
 
-ghost use Rattle.std.specs.Prelude.{◌≡◌, List, Result};
+ghost use Rattle.std.specs.Prelude.{◌≡◌, List, [], Result};
 ghost use Rattle.std.specs.Int.{int_bit_not, w64};
 ghost use Rattle.ps_base.specs.declared.language.PrimName.TheVariants as PrimName;
 ghost use Rattle.ps_prims.specs.Sorts.{first_order};
@@ -90,7 +90,7 @@ fn inverted(i: i64) -> i64
 
 #[tactic(auto, using(crate::proofs::QuietRowsShowNothing::nothing_seen, crate::proofs::QuietRowsShowNothing::quiet_wrong))]
 fn perform_bitwise_not(args: &[Value]) -> PrimOut
-    ensures { Quiet result (perform_row first_order (row first_order PrimName.BitwiseNot) args.now) }
+    ensures { Quiet result (perform_row first_order (row first_order [] PrimName.BitwiseNot) args.now) }
 {
     match one_integer(args) {
         Some(i) => PrimOut::Value(Value::Integer(inverted(i))),
@@ -100,7 +100,7 @@ fn perform_bitwise_not(args: &[Value]) -> PrimOut
 
 #[tactic(auto, using(crate::proofs::QuietRowsShowNothing::nothing_seen, crate::proofs::QuietRowsShowNothing::quiet_wrong))]
 fn perform_not(args: &[Value]) -> PrimOut
-    ensures { Quiet result (perform_row first_order (row first_order PrimName.Not) args.now) }
+    ensures { Quiet result (perform_row first_order (row first_order [] PrimName.Not) args.now) }
 {
     match one_boolean(args) {
         Some(b) => PrimOut::Value(Value::Boolean(!b)),
@@ -110,7 +110,7 @@ fn perform_not(args: &[Value]) -> PrimOut
 
 #[tactic(auto, using(crate::proofs::QuietRowsShowNothing::nothing_seen, crate::proofs::QuietRowsShowNothing::quiet_wrong))]
 fn perform_unspecific(args: &[Value]) -> PrimOut
-    ensures { Quiet result (perform_row first_order (row first_order PrimName.Unspecific) args.now) }
+    ensures { Quiet result (perform_row first_order (row first_order [] PrimName.Unspecific) args.now) }
 {
     if no_operand(args) {
         PrimOut::Value(Value::Unit)
@@ -121,7 +121,7 @@ fn perform_unspecific(args: &[Value]) -> PrimOut
 
 #[tactic(auto, using(crate::proofs::QuietRowsShowNothing::nothing_seen, crate::proofs::QuietRowsShowNothing::quiet_wrong))]
 fn perform_boolean_equal(args: &[Value]) -> PrimOut
-    ensures { Quiet result (perform_row first_order (row first_order PrimName.BooleanEqual) args.now) }
+    ensures { Quiet result (perform_row first_order (row first_order [] PrimName.BooleanEqual) args.now) }
 {
     match two_booleans(args) {
         Some((a, b)) => PrimOut::Value(Value::Boolean(a == b)),
@@ -131,7 +131,7 @@ fn perform_boolean_equal(args: &[Value]) -> PrimOut
 
 #[tactic(auto, using(crate::proofs::QuietRowsShowNothing::nothing_seen, crate::proofs::QuietRowsShowNothing::quiet_wrong))]
 fn perform_char_equal(args: &[Value]) -> PrimOut
-    ensures { Quiet result (perform_row first_order (row first_order PrimName.CharEqual) args.now) }
+    ensures { Quiet result (perform_row first_order (row first_order [] PrimName.CharEqual) args.now) }
 {
     match two_chars(args) {
         Some((c, d)) => PrimOut::Value(Value::Boolean(c == d)),
@@ -141,7 +141,7 @@ fn perform_char_equal(args: &[Value]) -> PrimOut
 
 #[tactic(auto, using(crate::proofs::QuietRowsShowNothing::nothing_seen, crate::proofs::QuietRowsShowNothing::quiet_wrong))]
 fn perform_char_less(args: &[Value]) -> PrimOut
-    ensures { Quiet result (perform_row first_order (row first_order PrimName.CharLess) args.now) }
+    ensures { Quiet result (perform_row first_order (row first_order [] PrimName.CharLess) args.now) }
 {
     match two_chars(args) {
         Some((c, d)) => PrimOut::Value(Value::Boolean(c < d)),
@@ -151,7 +151,7 @@ fn perform_char_less(args: &[Value]) -> PrimOut
 
 #[tactic(auto, using(crate::proofs::QuietRowsShowNothing::nothing_seen, crate::proofs::QuietRowsShowNothing::quiet_wrong))]
 fn perform_char_to_ascii(args: &[Value]) -> PrimOut
-    ensures { Quiet result (perform_row first_order (row first_order PrimName.CharToAscii) args.now) }
+    ensures { Quiet result (perform_row first_order (row first_order [] PrimName.CharToAscii) args.now) }
 {
     match one_char(args) {
         Some(c) => PrimOut::Value(Value::Integer(i64::from(c))),
@@ -171,7 +171,7 @@ fn char_out(answer: Result<u8, Op>) -> PrimOut
 
 #[tactic(auto, using(crate::proofs::QuietRowsShowNothing::quiet_ascii, crate::proofs::QuietRowsShowNothing::quiet_wrong))]
 fn perform_ascii_to_char(args: &[Value]) -> PrimOut
-    ensures { Quiet result (perform_row first_order (row first_order PrimName.AsciiToChar) args.now) }
+    ensures { Quiet result (perform_row first_order (row first_order [] PrimName.AsciiToChar) args.now) }
 {
     match one_integer(args) {
         Some(i) => char_out(numbers::character(i)),
@@ -181,7 +181,7 @@ fn perform_ascii_to_char(args: &[Value]) -> PrimOut
 
 #[tactic(auto, using(crate::proofs::QuietRowsShowNothing::nothing_seen, crate::proofs::QuietRowsShowNothing::quiet_wrong))]
 fn perform_null_address(args: &[Value]) -> PrimOut
-    ensures { Quiet result (perform_row first_order (row first_order PrimName.NullAddress) args.now) }
+    ensures { Quiet result (perform_row first_order (row first_order [] PrimName.NullAddress) args.now) }
 {
     if no_operand(args) {
         PrimOut::Value(Value::Address(Pointer::Null))

@@ -1,16 +1,21 @@
-//! The table of primitives: how many operands each takes, and when it may be performed.
+//! The table of primitives: when each may be performed, and which operands it takes.
 
-ghost use Rattle.std.specs.Prelude.{◌≡◌, length};
+ghost use Rattle.std.specs.Prelude.{◌≡◌, List, length, slice_get};
+ghost use Rattle.ps_base.specs.declared.language.PrimName.TheVariants as PrimName;
 ghost use Rattle.ps_prims.specs.Sorts.{first_order};
 ghost use Rattle.ps_prims.specs.Rows.{row};
+ghost use Rattle.ps_types.specs.declared.types.RecordKind.{RecordKind as KindSpec};
 
-use crate::sorts::operands_of;
+use crate::kinds::maker_of;
+use crate::sorts::{Sort, named_operands, sort_of_field};
 use crate::stages::Stages;
 use ps_base::Prim;
+use ps_types::Kinds;
+use sqlite_items::at;
 
-/// The stages to which a primitive belongs.
+/// The stages to which a primitive belongs, whatever the kinds of records are.
 pub fn stages_of(p: Prim) -> Stages
-    ensures { result ≡ (row first_order p).stages }
+    ensures { (kinds : List KindSpec) → result ≡ (row first_order kinds p).stages }
 {
     match p {
         Prim::Add => Stages::Both,
@@ -72,9 +77,40 @@ pub fn stages_of(p: Prim) -> Stages
     }
 }
 
-/// How many operands a primitive takes.
-pub fn arity_of(p: Prim) -> u32
-    ensures { result ≡ length (row first_order p).operands }
+/// How many operands a primitive takes, where these are the kinds of records: a maker takes one for each field that its kind
+/// names.
+pub fn arity_of(p: Prim, kinds: &Kinds) -> usize
+    ensures { result ≡ length (row first_order kinds.now p).operands }
 {
-    operands_of(p).len() as u32
+    match p {
+        Prim::Maker(k) => maker_of(kinds, k).len(),
+        Prim::Predicate(_) => 1,
+        Prim::Accessor(_, _) => 1,
+        Prim::Modifier(_, _) => 2,
+        _ => named_operands(p).len(),
+    }
+}
+
+// The sort of an operand of a maker.
+fn maker_operand(kinds: &Kinds, k: u32, i: usize) -> Option<Sort>
+    ensures { result ≡ slice_get (row first_order kinds.now (PrimName.Maker k)).operands i }
+{
+    match at(maker_of(kinds, k), i) {
+        Some(field) => Some(sort_of_field(kinds, k, *field)),
+        None => None,
+    }
+}
+
+/// The sort of the operand of a primitive at a place, where these are the kinds of records; none, where it takes no operand
+/// there.
+pub fn operand_at(p: Prim, kinds: &Kinds, i: usize) -> Option<Sort>
+    ensures { result ≡ slice_get (row first_order kinds.now p).operands i }
+{
+    match p {
+        Prim::Maker(k) => maker_operand(kinds, k, i),
+        Prim::Predicate(k) => at(&[Sort::Record(k)], i).copied(),
+        Prim::Accessor(k, _) => at(&[Sort::Record(k)], i).copied(),
+        Prim::Modifier(k, f) => { at(&[Sort::Record(k), sort_of_field(kinds, k, f)], i).copied() }
+        _ => at(named_operands(p), i).copied(),
+    }
 }

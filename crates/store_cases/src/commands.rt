@@ -1,20 +1,23 @@
 //! Commands, and what each of them answers.
 //!
-//! Beside the primitives these are `(fix-bytes N BYTE ...)` and `(fix-cells N VALUE ...)`, which add fixed block N,
+//! Beside the primitives these are `(asks (PRIMITIVE VALUE ...))`, the cells that it would ask for, `(fix-bytes N BYTE ...)` and `(fix-cells N VALUE ...)`, which add fixed block N,
 //! `(cells COUNT)`, which makes a block of cells of which none is set, `(world (BYTE ...) (GRANT ...))`, another world, and
 //! `(use-grant)`, `(read)`, `(peek)`, `(granted)`, `(next-fixed)` and `(next-made)`.
 
 ghost use Rattle.std.specs.Prelude.{◌≡◌, ◌<◌, ◌≤◌, length, true, IsTrue};
 ghost use Rattle.byte_store.specs.Blocks.{next_number};
+ghost use Rattle.ps_prims.specs.Kinds.{AreKinds};
 
 use crate::data::{byte_of, flag_of, form_of, integer_of, members, number_of, values_of, word};
+use crate::kinds::kinds;
 use crate::scene::Scene;
 use crate::tables::{PRIMS, found};
 use crate::trouble::Trouble;
 use byte_store::{Base, Pointer, Store, Value, World};
 use ps_base::{Bytes, Flags, Items, Names, Op, Prim};
 use ps_datum::Datum;
-use ps_prims::{PrimOut, Stage, Stages, perform, stages_of};
+use ps_prims::{PrimOut, Stage, Stages, cells_asked, perform, stages_of};
+use ps_types::Kinds;
 use std::alloc::{AllocError, Global};
 
 // Whether there is a number for one more made block.
@@ -26,28 +29,66 @@ fn has_room(store: &Store<Value>) -> bool
 }
 
 // Performs a primitive at run time.
-fn at_run(alloc: Global, p: Prim, values: &[Value], scene: &mut Scene) -> Option<PrimOut> {
+fn at_run(
+    alloc: Global,
+    p: Prim,
+    values: &[Value],
+    kinds: &Kinds,
+    scene: &mut Scene,
+) -> Option<PrimOut>
+    requires { AreKinds kinds.now }
+{
     let (store, world, events) = (&mut scene.store, &mut scene.world, &mut scene.events);
     if !has_room(store) {
         return None;
     }
     match stages_of(p) {
-        Stages::Both => Some(perform(alloc, p, values, Stage::Run, store, world, events)),
-        Stages::RunOnly => Some(perform(alloc, p, values, Stage::Run, store, world, events)),
+        Stages::Both => Some(perform(alloc, p, values, Stage::Run, kinds, store, world, events)),
+        Stages::RunOnly => {
+            Some(perform(alloc, p, values, Stage::Run, kinds, store, world, events))
+        }
         Stages::CompileOnly => None,
     }
 }
 
 // Performs a primitive at compile time.
-fn at_compile(alloc: Global, p: Prim, values: &[Value], scene: &mut Scene) -> Option<PrimOut> {
+fn at_compile(
+    alloc: Global,
+    p: Prim,
+    values: &[Value],
+    kinds: &Kinds,
+    scene: &mut Scene,
+) -> Option<PrimOut>
+    requires { AreKinds kinds.now }
+{
     let (store, world, events) = (&mut scene.store, &mut scene.world, &mut scene.events);
     if store.next_fixed() == u32::MAX {
         return None;
     }
     match stages_of(p) {
-        Stages::Both => Some(perform(alloc, p, values, Stage::Compile, store, world, events)),
+        Stages::Both => {
+            Some(perform(
+                alloc,
+                p,
+                values,
+                Stage::Compile,
+                kinds,
+                store,
+                world,
+                events,
+            ))
+        }
         Stages::CompileOnly => {
-            Some(perform(alloc, p, values, Stage::Compile, store, world, events))
+            Some(perform(
+                alloc,
+                p,
+                values,
+                Stage::Compile,
+                kinds,
+                store,
+                world,
+                events,
+            ))
         }
         Stages::RunOnly => None,
     }
@@ -59,11 +100,16 @@ fn performed(
     values: &[Value],
     stage: Stage,
     scene: &mut Scene,
-) -> Result<String, AllocError> {
+) -> Result<String, Trouble> {
+    let kinds = kinds(alloc)?;
     let out = match stage {
-        Stage::Compile => at_compile(alloc, p, values, scene),
-        Stage::Run => at_run(alloc, p, values, scene),
+        Stage::Compile => at_compile(alloc, p, values, &kinds, scene),
+        Stage::Run => at_run(alloc, p, values, &kinds, scene),
     };
+    Ok(out_text(alloc, out)?)
+}
+
+fn out_text(alloc: Global, out: Option<PrimOut>) -> Result<String, AllocError> {
     match out {
         Some(PrimOut::Value(value)) => format!(in alloc; "{value:?}"),
         Some(PrimOut::Undefined(op)) => format!(in alloc; "{op:?}"),
@@ -71,6 +117,31 @@ fn performed(
         Some(PrimOut::NoMemory) => String::from_str(alloc, "no memory"),
         None => String::from_str(alloc, "not at this stage"),
     }
+}
+
+// How many cells a primitive asks for.
+fn asked(
+    alloc: Global,
+    names: &Names,
+    d: &Datum,
+    stage: Stage,
+    scene: &Scene,
+) -> Result<String, Trouble> {
+    let (first, parts) = form_of(d)?;
+    let Some(p) = found(PRIMS, word(names, first)) else {
+        return Err(Trouble::Unread(first.place));
+    };
+    let values = values_of(alloc, names, parts)?;
+    let kinds = kinds(alloc)?;
+    let count = cells_asked(
+        p,
+        values.as_slice(),
+        stage,
+        &kinds,
+        &scene.store,
+        &scene.world,
+    );
+    Ok(format!(in alloc; "{count}")?)
 }
 
 fn bytes_of(alloc: Global, parts: &[Datum]) -> Result<Bytes, Trouble> {
@@ -181,11 +252,12 @@ pub fn answer(
     scene: &mut Scene,
 ) -> Result<String, Trouble> {
     let (first, parts) = form_of(d)?;
-    match found(PRIMS, word(names, first)) {
-        Some(p) => {
+    match (found(PRIMS, word(names, first)), word(names, first), parts) {
+        (Some(p), _, _) => {
             let values = values_of(alloc, names, parts)?;
-            Ok(performed(alloc, p, values.as_slice(), stage, scene)?)
+            performed(alloc, p, values.as_slice(), stage, scene)
         }
-        None => other(alloc, names, first, parts, scene),
+        (None, b"asks", [d]) => asked(alloc, names, d, stage, scene),
+        (None, _, _) => other(alloc, names, first, parts, scene),
     }
 }

@@ -1,8 +1,9 @@
 //! Lines: those of events and of primitives, and the parts of one line.
 
+use crate::kinds::{kinds, names_of_kinds};
 use crate::trouble::Trouble;
 use byte_store::{Cell, Event, Pointer, Value, write_event};
-use ps_base::{Items, MemorySink, Names, Prim, write_all};
+use ps_base::{Items, MemorySink, Prim, write_all};
 use ps_prims::{arity_of, scheme_of, stages_of};
 use ps_types::{has_known_records, write_type};
 use std::alloc::{AllocError, Global};
@@ -87,13 +88,14 @@ pub fn put_event(word: &[u8], values: &[Value], page: &mut MemorySink) -> Result
 
 /// Writes the row of a primitive.
 pub fn put_row(alloc: Global, p: Prim, page: &mut MemorySink) -> Result<(), Trouble> {
-    let names = Names::new(alloc);
-    let scheme = scheme_of(alloc, p)?;
+    let names = names_of_kinds(alloc)?;
+    let kinds = kinds(alloc)?;
+    let scheme = scheme_of(alloc, p, &kinds)?;
     let variables = scheme.variables.len();
-    let row = format!(in alloc; "{:?} {} {variables} ", stages_of(p), arity_of(p))?;
+    let row = format!(in alloc; "{:?} {} {variables} ", stages_of(p), arity_of(p, &kinds))?;
     write_all(page, row.as_bytes())?;
-    if has_known_records(&scheme.body, &[], &names) {
-        write_type(&scheme.body, &[], &names, page)?;
+    if has_known_records(&scheme.body, kinds.as_slice(), &names) {
+        write_type(&scheme.body, kinds.as_slice(), &names, page)?;
     }
     Ok(write_all(page, b"\n")?)
 }

@@ -13,11 +13,14 @@
 //!
 //! A value is an integer, a boolean, a character, `unit`, `(char CODE)`, or `(address BLOCK N OFFSET)`, where BLOCK is `s` for a
 //! fixed one or `d` for a made one; `(address)` is null, and `string`, `vector` and `record KIND` stand like `address`.
+//!
+//! The kinds of records are the two of `kinds.rt`.
 #![tactic(auto)]
 
 mod cases;
 mod commands;
 mod data;
+mod kinds;
 mod lines;
 mod scene;
 mod tables;

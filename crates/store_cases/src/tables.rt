@@ -12,7 +12,7 @@ pub fn found<T: Copy>(table: &[(&[u8], T)], word: &[u8]) -> Option<T> {
     None
 }
 
-/// The primitives, by their names in the language.
+/// The primitives, by their names in the language, and those of the records of two kinds.
 pub const PRIMS: &[(&[u8], Prim)] = &[
     (b"+", Prim::Add),
     (b"-", Prim::Subtract),
@@ -66,4 +66,20 @@ pub const PRIMS: &[(&[u8], Prim)] = &[
     (b"string-append", Prim::StringAppend),
     (b"string=?", Prim::StringEqual),
     (b"vector-length", Prim::VectorLength),
+    (b"make-node", Prim::Maker(0)),
+    (b"node?", Prim::Predicate(0)),
+    (b"node-0", Prim::Accessor(0, 0)),
+    (b"node-1", Prim::Accessor(0, 1)),
+    (b"node-2", Prim::Accessor(0, 2)),
+    (b"node-3", Prim::Accessor(0, 3)),
+    (b"set-node-1!", Prim::Modifier(0, 1)),
+    (b"set-node-3!", Prim::Modifier(0, 3)),
+    (b"make-leaf", Prim::Maker(1)),
+    (b"leaf?", Prim::Predicate(1)),
+    (b"leaf-0", Prim::Accessor(1, 0)),
+    (b"leaf-1", Prim::Accessor(1, 1)),
+    (b"leaf-2", Prim::Accessor(1, 2)),
+    (b"leaf-3", Prim::Accessor(1, 3)),
+    (b"set-leaf-0!", Prim::Modifier(1, 0)),
+    (b"set-leaf-3!", Prim::Modifier(1, 3)),
 ];

@@ -59,3 +59,6 @@ returns-in-ReadByte-clause-memory g c = rw c.in-ReadByte.is (wants c.perform_rea
 
 pub returns-in-WriteByte-clause-memory : goal.returns-in-WriteByte-clause-memory
 returns-in-WriteByte-clause-memory g c = rw c.in-WriteByte.is (wants c.perform_write_byte.result _ (takes_at_run c.args.stage (rw c.in-WriteByte.is at c.requires.belongs)))
+
+pub returns-in-OnRecord-clause-row : goal.returns-in-OnRecord-clause-row
+returns-in-OnRecord-clause-row g c = rw c.in-OnRecord.is c.perform_on_record.ensures.row
