@@ -5,7 +5,7 @@ use Rattle.std.specs.Prelude.{◌==◌, if◌then◌else◌}
 use Rattle.std.specs.List.{fold, list_all}
 use Rattle.std.proofs.Math.ListN.{replicate, length-set, length-replicate}
 use Rattle.std.proofs.lemmas.Bool.{and_parts, and_from, eqb-true, eqb-false, eq-eqb, ne_eqb, cases_lt}
-use Rattle.ps_kernel.specs.Once.{times, EachOnce}
+use Rattle.ps_prims.specs.Once.{times, EachOnce}
 use Rattle.ps_kernel.specs.InsideWalks.{is_some_false, stand, meets}
 
 -- ---- how often a number stands in a list

@@ -1,16 +1,17 @@
 -- The table of a walk tells which locals have been met, and which of them are in scope.
 -- For: `is_right`
-use Rattle.std.proofs.Common.{◌≡◌, ℕ, suc, ◌+◌, ◌<◌, ◌≤◌, Bool, true, false, List, [], ◌∷◌, Option, Some, None, refl, sym, ap, ◌∙◌, arith}
+use Rattle.std.proofs.Common.{◌≡◌, length, get_or, drop, drop-cons, ℕ, suc, ◌+◌, ◌<◌, ◌≤◌, Bool, true, false, List, [], ◌∷◌, Option, Some, None, refl, sym, ap, ◌∙◌, arith}
 use Rattle.std.specs.Prelude.{◌==◌, ◌&&◌, ◌||◌, if◌then◌else◌, nat_lt}
 use Rattle.std.specs.Ordering.{nat_cmp, is_eq, match_ordering}
 use Rattle.std.specs.BTreeMap.{insert_entry, is_at}
 use Rattle.std.specs.declared.cmp.Ordering.TheVariants.{Less, Equal, Greater}
 use Rattle.std.proofs.lemmas.Bool.{and_parts, and_from, eqb-true, eqb-false, ltb-true}
-use Rattle.ps_kernel.specs.Once.{times}
-use Rattle.ps_kernel.specs.Rules.{stands_in, bound}
-use Rattle.ps_kernel.specs.Marks.{Node, TooDeep, Stands, Binds, Mentions, Names, Quotes, Sequence, Replaces, Performs}
+use Rattle.ps_prims.specs.Once.{times}
+use Rattle.ps_kernel.specs.Lists.{stands_in}
+use Rattle.ps_kernel.specs.Texts.{bound}
+use Rattle.ps_kernel.specs.Marks.{BindsParameter, BindsLet, BindsEntry, Mentions, Sets}
 use Rattle.ps_kernel.specs.InsideSteps.{Step, Passes, Closes, passed, without, is_scoped}
-use Rattle.ps_kernel.specs.InsideWalks.{entry_of, is_none, is_some_true, closed}
+use Rattle.ps_kernel.specs.InsideWalks.{has_none, entry_of, is_none, is_some_true, closed}
 use Rattle.ps_kernel.proofs.FlagsTellOnce.{times_same}
 
 abbrev pub Table : Type 0
@@ -31,7 +32,7 @@ first_entry : (y z : ℕ) (v : Bool) (es : Table) → entry_of ((z, v) ∷ es) y
 first_entry y z v es = ap (λ (b : Bool). if b then Some v else entry_of es y) (at_key y z)
 
 -- what an entry that was put changes
-found : (es : Table) (x : ℕ) (v : Bool) (y : ℕ) → entry_of (insert_entry nat_cmp es x v) y ≡ (if y == x then Some v else entry_of es y)
+pub found : (es : Table) (x : ℕ) (v : Bool) (y : ℕ) → entry_of (insert_entry nat_cmp es x v) y ≡ (if y == x then Some v else entry_of es y)
 found [] x v y = first_entry y x v []
 found (e ∷ es) x v y = by (nat_lt x e.0) (x == e.0) refl (found es x v y)
   where
@@ -151,12 +152,17 @@ closes_tells t seen scope x h = record {
 -- ---- a walk over locals
 
 abbrev pub can : Table → Step → Bool
-can t (Passes (Binds x)) = is_none (entry_of t x)
+can t (Passes (BindsParameter x)) = is_none (entry_of t x)
+can t (Passes (BindsLet x)) = is_none (entry_of t x)
+can t (Passes (BindsEntry j)) = is_none (entry_of t j.local)
 can t (Passes (Mentions x none)) = is_some_true (entry_of t x)
+can t (Passes (Sets x none)) = is_some_true (entry_of t x)
 can t m = true
 
 abbrev pub after : Table → Step → Table
-after t (Passes (Binds x)) = insert_entry nat_cmp t x true
+after t (Passes (BindsParameter x)) = insert_entry nat_cmp t x true
+after t (Passes (BindsLet x)) = insert_entry nat_cmp t x true
+after t (Passes (BindsEntry j)) = insert_entry nat_cmp t j.local true
 after t (Closes x) = closed t x (entry_of t x)
 after t m = t
 
@@ -200,23 +206,21 @@ fresh_back x xs seen h y = by (y == x) (h y)
 -- a walk that may go over all marks finds each local in its region, and no local twice
 pub goes_scoped : (t : Table) (seen scope : List ℕ) (ms : List Step) → Tells t seen scope → goes_locals t ms ≡ true → is_scoped scope ms ≡ true
 goes_scoped t seen scope [] h g = refl
-goes_scoped t seen scope (Passes (Binds x) ∷ ms) h g = goes_scoped (insert_entry nat_cmp t x true) (x ∷ seen) (x ∷ scope) ms (opens_tells t seen scope x h) (and_parts (is_none (entry_of t x)) (goes_locals (insert_entry nat_cmp t x true) ms) g).1
+goes_scoped t seen scope (Passes (BindsParameter x) ∷ ms) h g = goes_scoped (insert_entry nat_cmp t x true) (x ∷ seen) (x ∷ scope) ms (opens_tells t seen scope x h) (and_parts (is_none (entry_of t x)) (goes_locals (insert_entry nat_cmp t x true) ms) g).1
+goes_scoped t seen scope (Passes (BindsLet x) ∷ ms) h g = goes_scoped (insert_entry nat_cmp t x true) (x ∷ seen) (x ∷ scope) ms (opens_tells t seen scope x h) (and_parts (is_none (entry_of t x)) (goes_locals (insert_entry nat_cmp t x true) ms) g).1
+goes_scoped t seen scope (Passes (BindsEntry j) ∷ ms) h g = goes_scoped (insert_entry nat_cmp t j.local true) (j.local ∷ seen) (j.local ∷ scope) ms (opens_tells t seen scope j.local h) (and_parts (is_none (entry_of t j.local)) (goes_locals (insert_entry nat_cmp t j.local true) ms) g).1
 goes_scoped t seen scope (Closes x ∷ ms) h g = goes_scoped (closed t x (entry_of t x)) seen (without x scope) ms (closes_tells t seen scope x h) g
 goes_scoped t seen scope (Passes (Mentions x none) ∷ ms) h g =
     let p = and_parts (is_some_true (entry_of t x)) (goes_locals t ms) g in
     and_from (stands_in x scope) (is_scoped scope ms) (sym (told_is_true (stands_in x scope) (stands_in x seen)) ∙ ap is_some_true (sym (h.entry x)) ∙ p.0) (goes_scoped t seen scope ms h p.1)
-goes_scoped t seen scope (Passes Node ∷ ms) h g = goes_scoped t seen scope ms h g
-goes_scoped t seen scope (Passes TooDeep ∷ ms) h g = goes_scoped t seen scope ms h g
-goes_scoped t seen scope (Passes (Stands l) ∷ ms) h g = goes_scoped t seen scope ms h g
-goes_scoped t seen scope (Passes (Names l) ∷ ms) h g = goes_scoped t seen scope ms h g
-goes_scoped t seen scope (Passes (Quotes l) ∷ ms) h g = goes_scoped t seen scope ms h g
-goes_scoped t seen scope (Passes (Sequence l) ∷ ms) h g = goes_scoped t seen scope ms h g
-goes_scoped t seen scope (Passes (Replaces l) ∷ ms) h g = goes_scoped t seen scope ms h g
-goes_scoped t seen scope (Passes (Performs l n) ∷ ms) h g = goes_scoped t seen scope ms h g
+goes_scoped t seen scope (Passes (Sets x none) ∷ ms) h g =
+    let p = and_parts (is_some_true (entry_of t x)) (goes_locals t ms) g in
+    and_from (stands_in x scope) (is_scoped scope ms) (sym (told_is_true (stands_in x scope) (stands_in x seen)) ∙ ap is_some_true (sym (h.entry x)) ∙ p.0) (goes_scoped t seen scope ms h p.1)
+goes_scoped t seen scope (Passes m ∷ ms) h g = goes_scoped t seen scope ms h g
 
 pub goes_fresh : (t : Table) (seen scope : List ℕ) (ms : List Step) → Tells t seen scope → Fresh [] seen → goes_locals t ms ≡ true → Fresh (bound (passed ms)) seen
 goes_fresh t seen scope [] h f g = f
-goes_fresh t seen scope (Passes (Binds x) ∷ ms) h f g =
+goes_fresh t seen scope (Passes (BindsParameter x) ∷ ms) h f g =
     let p = and_parts (is_none (entry_of t x)) (goes_locals (insert_entry nat_cmp t x true) ms) g in
     let out : stands_in x seen ≡ false = told_is_none (stands_in x scope) (stands_in x seen) (ap is_none (sym (h.entry x)) ∙ p.0) in
     let start : Fresh [] (x ∷ seen) = λ y. by y (y == x) refl (out_times x seen out) (f y) in
@@ -225,20 +229,32 @@ goes_fresh t seen scope (Passes (Binds x) ∷ ms) h f g =
     by : (y : ℕ) (b : Bool) → (y == x) ≡ b → times x seen ≡ 0 → 0 + times y seen ≤ 1 → 0 + (if b then suc (times y seen) else times y seen) ≤ 1
     by y true e z low = let same : times y seen ≡ times x seen = ap (λ (w : ℕ). times w seen) (eqb-true y x e) in omega arith
     by y false e z low = low
+goes_fresh t seen scope (Passes (BindsLet x) ∷ ms) h f g =
+    let p = and_parts (is_none (entry_of t x)) (goes_locals (insert_entry nat_cmp t x true) ms) g in
+    let out : stands_in x seen ≡ false = told_is_none (stands_in x scope) (stands_in x seen) (ap is_none (sym (h.entry x)) ∙ p.0) in
+    let start : Fresh [] (x ∷ seen) = λ y. by y (y == x) refl (out_times x seen out) (f y) in
+    fresh_back x (bound (passed ms)) seen (goes_fresh (insert_entry nat_cmp t x true) (x ∷ seen) (x ∷ scope) ms (opens_tells t seen scope x h) start p.1)
+  where
+    by : (y : ℕ) (b : Bool) → (y == x) ≡ b → times x seen ≡ 0 → 0 + times y seen ≤ 1 → 0 + (if b then suc (times y seen) else times y seen) ≤ 1
+    by y true e z low = let same : times y seen ≡ times x seen = ap (λ (w : ℕ). times w seen) (eqb-true y x e) in omega arith
+    by y false e z low = low
+goes_fresh t seen scope (Passes (BindsEntry j) ∷ ms) h f g =
+    let p = and_parts (is_none (entry_of t j.local)) (goes_locals (insert_entry nat_cmp t j.local true) ms) g in
+    let out : stands_in j.local seen ≡ false = told_is_none (stands_in j.local scope) (stands_in j.local seen) (ap is_none (sym (h.entry j.local)) ∙ p.0) in
+    let start : Fresh [] (j.local ∷ seen) = λ y. by y (y == j.local) refl (out_times j.local seen out) (f y) in
+    fresh_back j.local (bound (passed ms)) seen (goes_fresh (insert_entry nat_cmp t j.local true) (j.local ∷ seen) (j.local ∷ scope) ms (opens_tells t seen scope j.local h) start p.1)
+  where
+    by : (y : ℕ) (b : Bool) → (y == j.local) ≡ b → times j.local seen ≡ 0 → 0 + times y seen ≤ 1 → 0 + (if b then suc (times y seen) else times y seen) ≤ 1
+    by y true e z low = let same : times y seen ≡ times j.local seen = ap (λ (w : ℕ). times w seen) (eqb-true y j.local e) in omega arith
+    by y false e z low = low
 goes_fresh t seen scope (Closes x ∷ ms) h f g = goes_fresh (closed t x (entry_of t x)) seen (without x scope) ms (closes_tells t seen scope x h) f g
 goes_fresh t seen scope (Passes (Mentions x none) ∷ ms) h f g = goes_fresh t seen scope ms h f (and_parts (is_some_true (entry_of t x)) (goes_locals t ms) g).1
-goes_fresh t seen scope (Passes Node ∷ ms) h f g = goes_fresh t seen scope ms h f g
-goes_fresh t seen scope (Passes TooDeep ∷ ms) h f g = goes_fresh t seen scope ms h f g
-goes_fresh t seen scope (Passes (Stands l) ∷ ms) h f g = goes_fresh t seen scope ms h f g
-goes_fresh t seen scope (Passes (Names l) ∷ ms) h f g = goes_fresh t seen scope ms h f g
-goes_fresh t seen scope (Passes (Quotes l) ∷ ms) h f g = goes_fresh t seen scope ms h f g
-goes_fresh t seen scope (Passes (Sequence l) ∷ ms) h f g = goes_fresh t seen scope ms h f g
-goes_fresh t seen scope (Passes (Replaces l) ∷ ms) h f g = goes_fresh t seen scope ms h f g
-goes_fresh t seen scope (Passes (Performs l n) ∷ ms) h f g = goes_fresh t seen scope ms h f g
+goes_fresh t seen scope (Passes (Sets x none) ∷ ms) h f g = goes_fresh t seen scope ms h f (and_parts (is_some_true (entry_of t x)) (goes_locals t ms) g).1
+goes_fresh t seen scope (Passes m ∷ ms) h f g = goes_fresh t seen scope ms h f g
 
 pub goes_from : (t : Table) (seen scope : List ℕ) (ms : List Step) → Tells t seen scope → is_scoped scope ms ≡ true → Fresh (bound (passed ms)) seen → goes_locals t ms ≡ true
 goes_from t seen scope [] h s f = refl
-goes_from t seen scope (Passes (Binds x) ∷ ms) h s f =
+goes_from t seen scope (Passes (BindsParameter x) ∷ ms) h s f =
     let low : times x (x ∷ bound (passed ms)) + times x seen ≤ 1 = f x in
     let one : times x (x ∷ bound (passed ms)) ≡ suc (times x (bound (passed ms))) = times_same x x (bound (passed ms)) refl in
     let out : stands_in x seen ≡ false = gone (stands_in x seen) refl low one in
@@ -248,15 +264,42 @@ goes_from t seen scope (Passes (Binds x) ∷ ms) h s f =
     gone : (b : Bool) → stands_in x seen ≡ b → times x (x ∷ bound (passed ms)) + times x seen ≤ 1 → times x (x ∷ bound (passed ms)) ≡ suc (times x (bound (passed ms))) → b ≡ false
     gone true e low one = let more : 1 ≤ times x seen = in_times x seen e in absurd (omega arith)
     gone false e low one = refl
+goes_from t seen scope (Passes (BindsLet x) ∷ ms) h s f =
+    let low : times x (x ∷ bound (passed ms)) + times x seen ≤ 1 = f x in
+    let one : times x (x ∷ bound (passed ms)) ≡ suc (times x (bound (passed ms))) = times_same x x (bound (passed ms)) refl in
+    let out : stands_in x seen ≡ false = gone (stands_in x seen) refl low one in
+    and_from (is_none (entry_of t x)) (goes_locals (insert_entry nat_cmp t x true) ms) (ap is_none (h.entry x) ∙ told_absent (stands_in x scope) (stands_in x seen) (h.known x) out)
+    (goes_from (insert_entry nat_cmp t x true) (x ∷ seen) (x ∷ scope) ms (opens_tells t seen scope x h) s (fresh_next x (bound (passed ms)) seen f))
+  where
+    gone : (b : Bool) → stands_in x seen ≡ b → times x (x ∷ bound (passed ms)) + times x seen ≤ 1 → times x (x ∷ bound (passed ms)) ≡ suc (times x (bound (passed ms))) → b ≡ false
+    gone true e low one = let more : 1 ≤ times x seen = in_times x seen e in absurd (omega arith)
+    gone false e low one = refl
+goes_from t seen scope (Passes (BindsEntry j) ∷ ms) h s f =
+    let low : times j.local (j.local ∷ bound (passed ms)) + times j.local seen ≤ 1 = f j.local in
+    let one : times j.local (j.local ∷ bound (passed ms)) ≡ suc (times j.local (bound (passed ms))) = times_same j.local j.local (bound (passed ms)) refl in
+    let out : stands_in j.local seen ≡ false = gone (stands_in j.local seen) refl low one in
+    and_from (is_none (entry_of t j.local)) (goes_locals (insert_entry nat_cmp t j.local true) ms) (ap is_none (h.entry j.local) ∙ told_absent (stands_in j.local scope) (stands_in j.local seen) (h.known j.local) out)
+    (goes_from (insert_entry nat_cmp t j.local true) (j.local ∷ seen) (j.local ∷ scope) ms (opens_tells t seen scope j.local h) s (fresh_next j.local (bound (passed ms)) seen f))
+  where
+    gone : (b : Bool) → stands_in j.local seen ≡ b → times j.local (j.local ∷ bound (passed ms)) + times j.local seen ≤ 1 → times j.local (j.local ∷ bound (passed ms)) ≡ suc (times j.local (bound (passed ms))) → b ≡ false
+    gone true e low one = let more : 1 ≤ times j.local seen = in_times j.local seen e in absurd (omega arith)
+    gone false e low one = refl
 goes_from t seen scope (Closes x ∷ ms) h s f = goes_from (closed t x (entry_of t x)) seen (without x scope) ms (closes_tells t seen scope x h) s f
 goes_from t seen scope (Passes (Mentions x none) ∷ ms) h s f =
     let p = and_parts (stands_in x scope) (is_scoped scope ms) s in
     and_from (is_some_true (entry_of t x)) (goes_locals t ms) (ap is_some_true (h.entry x) ∙ told_is_true (stands_in x scope) (stands_in x seen) ∙ p.0) (goes_from t seen scope ms h p.1 f)
-goes_from t seen scope (Passes Node ∷ ms) h s f = goes_from t seen scope ms h s f
-goes_from t seen scope (Passes TooDeep ∷ ms) h s f = goes_from t seen scope ms h s f
-goes_from t seen scope (Passes (Stands l) ∷ ms) h s f = goes_from t seen scope ms h s f
-goes_from t seen scope (Passes (Names l) ∷ ms) h s f = goes_from t seen scope ms h s f
-goes_from t seen scope (Passes (Quotes l) ∷ ms) h s f = goes_from t seen scope ms h s f
-goes_from t seen scope (Passes (Sequence l) ∷ ms) h s f = goes_from t seen scope ms h s f
-goes_from t seen scope (Passes (Replaces l) ∷ ms) h s f = goes_from t seen scope ms h s f
-goes_from t seen scope (Passes (Performs l n) ∷ ms) h s f = goes_from t seen scope ms h s f
+goes_from t seen scope (Passes (Sets x none) ∷ ms) h s f =
+    let p = and_parts (stands_in x scope) (is_scoped scope ms) s in
+    and_from (is_some_true (entry_of t x)) (goes_locals t ms) (ap is_some_true (h.entry x) ∙ told_is_true (stands_in x scope) (stands_in x seen) ∙ p.0) (goes_from t seen scope ms h p.1 f)
+goes_from t seen scope (Passes m ∷ ms) h s f = goes_from t seen scope ms h s f
+
+-- ---- a table that has none of some numbers
+
+none_first : (t : Table) (xs : List ℕ) (i : ℕ) → i < length xs → has_none t (drop i xs) ≡ (is_none (entry_of t (get_or xs i 0)) && has_none t (drop (i + 1) xs))
+none_first t xs i lt = let e = drop-cons xs i 0 lt in ap (has_none t) e ∙ ap (λ (j : ℕ). is_none (entry_of t (get_or xs i 0)) && has_none t (drop j xs)) (let f : suc i ≡ i + 1 = omega arith in f)
+
+pub has_one : (t : Table) (xs : List ℕ) (i : ℕ) (o : Option Bool) (b : Bool) → i < length xs → o ≡ entry_of t (get_or xs i 0) → o ≡ Some b → has_none t (drop i xs) ≡ has_none t xs → false ≡ has_none t xs
+has_one t xs i o b lt e s h = sym (ap (λ (d : Bool). d && has_none t (drop (i + 1) xs)) (ap is_none (sym e ∙ s))) ∙ sym (none_first t xs i lt) ∙ h
+
+pub has_none_yet : (t : Table) (xs : List ℕ) (i : ℕ) (o : Option Bool) → i < length xs → o ≡ entry_of t (get_or xs i 0) → o ≡ None → has_none t (drop i xs) ≡ has_none t xs → has_none t (drop (i + 1) xs) ≡ has_none t xs
+has_none_yet t xs i o lt e n h = sym (ap (λ (d : Bool). d && has_none t (drop (i + 1) xs)) (ap is_none (sym e ∙ n))) ∙ sym (none_first t xs i lt) ∙ h

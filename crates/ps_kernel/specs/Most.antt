@@ -9,3 +9,7 @@ most_depth = standard_limits.depth
 -- the expressions of a kernel
 abbrev pub most_nodes : ℕ
 most_nodes = standard_limits.nodes
+
+-- the labels of a case, over all its branches
+abbrev pub most_labels : ℕ
+most_labels = 1023

@@ -1,10 +1,10 @@
 -- How large a kernel is (this project's own): how many expressions its text has, each body of a lambda counted where the
--- lambda stands, and how many levels hold it.
+-- lambda stands, and how many levels hold it. A case counts as what it unfolds to (`Unfold`).
 use Rattle.std.specs.Prelude.{◌≡◌, ℕ, ◌<◌, Bool, true, false}
 use Rattle.std.specs.List.{list_all}
 use Rattle.ps_kernel.specs.declared.kernel.Kernel.{Kernel}
 use Rattle.ps_kernel.specs.Rules.{has_level, nodes}
-use Rattle.ps_kernel.specs.Valid.{form_marks}
+use Rattle.ps_kernel.specs.Texts.{form_marks}
 
 -- nothing in the text of a kernel lies below so many levels
 abbrev pub is_within : ℕ → Kernel → Bool

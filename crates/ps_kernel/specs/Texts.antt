@@ -1,118 +1,108 @@
--- What stands in an expression, and in the text of a lambda (R5RS 4.1.4 and 4.2.2 for lambdas and locals).
---
--- The text of a lambda is its body with the bodies of the lambdas that stand in it, and so on. Lambdas stand in each other
--- without circles, so that no chain of them is longer than there are lambdas: this is the bound that `text_locals` goes by.
-use Rattle.std.specs.Prelude.{ℕ, zero, suc, ◌==◌, Bool, List, [], ◌∷◌, ◌++◌, length, map, Option, Some, None, slice_get, if◌then◌else◌}
-use Rattle.std.specs.List.{list_any}
+-- The texts of forms and of lambdas, and what the text of a kernel says of its numbers (R5RS 4.1.4 and 4.2.2 for lambdas and
+-- locals). All of it is read off marks.
+use Rattle.std.specs.Prelude.{ℕ, ◌==◌, false, List, [], ◌∷◌, Option, Some, None, slice_get, if◌then◌else◌}
+use Rattle.std.specs.List.{flat_map}
 use Rattle.ps_base.specs.declared.faults.Place.{Place}
 use Rattle.ps_kernel.specs.declared.expr.Expr.{Expr, fold-Expr, roll-Expr}
 use Rattle.ps_kernel.specs.declared.expr.ExprKind.{ExprKind}
 use Rattle.ps_kernel.specs.declared.expr.ExprKind.TheOpen.{ExprKind-F}
 use Rattle.ps_kernel.specs.declared.expr.GroupEntry.{GroupEntry}
 use Rattle.ps_kernel.specs.declared.kernel.Kernel.{Kernel}
-use Rattle.ps_kernel.specs.declared.kernel.Lambda.{Lambda}
 use Rattle.ps_kernel.specs.declared.kernel.Form.{Form}
 use Rattle.ps_kernel.specs.declared.kernel.Form.TheVariants.{Define, Do}
+use Rattle.ps_kernel.specs.Most.{most_depth}
+use Rattle.ps_kernel.specs.Marks.{Mark, Stands, BindsParameter, BindsLet, BindsEntry, Mentions, Sets, Whole, marks, body_marks}
 
--- some lists, one behind the other
-abbrev pub joined : {A : Type 0} → List (List A) → List A
-joined [] = []
-joined (xs ∷ more) = xs ++ joined more
+-- ---- what marks say
+
+-- the lambdas that stand there, in order
+abbrev pub standing : List Mark → List ℕ
+standing [] = []
+standing (Stands l g ∷ ms) = l ∷ standing ms
+standing (m ∷ ms) = standing ms
+
+-- the locals that are bound
+abbrev pub bound : List Mark → List ℕ
+bound [] = []
+bound (BindsParameter x ∷ ms) = x ∷ bound ms
+bound (BindsLet x ∷ ms) = x ∷ bound ms
+bound (BindsEntry e ∷ ms) = e.local ∷ bound ms
+bound (m ∷ ms) = bound ms
+
+-- the locals that are mentioned or assigned
+abbrev pub named : List Mark → List ℕ
+named [] = []
+named (Mentions x scope ∷ ms) = x ∷ named ms
+named (Sets x scope ∷ ms) = x ∷ named ms
+named (m ∷ ms) = named ms
+
+-- the locals that are assigned
+abbrev pub assigned : List Mark → List ℕ
+assigned [] = []
+assigned (Sets x scope ∷ ms) = x ∷ assigned ms
+assigned (m ∷ ms) = assigned ms
+
+-- the locals that letrecs bind
+abbrev pub entries : List Mark → List ℕ
+entries [] = []
+entries (BindsEntry e ∷ ms) = e.local ∷ entries ms
+entries (m ∷ ms) = entries ms
+
+-- the group in which a lambda stands, or no entries where it stands in none
+abbrev pub group_in : ℕ → List Mark → List GroupEntry
+group_in l [] = []
+group_in l (Stands n g ∷ ms) = if l == n then g else group_in l ms
+group_in l (m ∷ ms) = group_in l ms
+
+-- the entry of a local that a letrec binds
+abbrev pub entry_in : ℕ → List Mark → Option GroupEntry
+entry_in x [] = None
+entry_in x (BindsEntry e ∷ ms) = if x == e.local then Some e else entry_in x ms
+entry_in x (m ∷ ms) = entry_in x ms
+
+-- ---- texts
 
 -- an expression of a kind at a place
 abbrev pub expr_at : Place → ExprKind → Expr
-expr_at p kind = roll-Expr (record { place = p; kind = kind })
-
--- ---- one expression, without the bodies of the lambdas that stand in it
-
--- what is found in the parts of an expression, from left to right
-abbrev pub in_parts : {A : Type 0} → ExprKind-F (List A) (List A) → List A
-in_parts (ExprKind-F.Constant c) = []
-in_parts (ExprKind-F.Local x) = []
-in_parts (ExprKind-F.Global g) = []
-in_parts (ExprKind-F.Lambda l) = []
-in_parts (ExprKind-F.If a b c) = a ++ (b ++ c)
-in_parts (ExprKind-F.Let x a b) = a ++ b
-in_parts (ExprKind-F.Letrec g b) = b
-in_parts (ExprKind-F.Begin es) = joined es
-in_parts (ExprKind-F.SetGlobal g a) = a
-in_parts (ExprKind-F.Call f es) = f ++ joined es
-in_parts (ExprKind-F.ProperCall f es) = f ++ joined es
-in_parts (ExprKind-F.Primitive p es) = joined es
-
--- the locals that are mentioned
-abbrev pub locals_node : ExprKind-F (List ℕ) (List ℕ) → List ℕ
-locals_node (ExprKind-F.Local x) = x ∷ []
-locals_node e = in_parts e
-
-abbrev pub locals_in : Expr → List ℕ
-locals_in = fold-Expr (List ℕ) (List ℕ) locals_node (λ e. e.kind)
-
--- the letrec groups
-abbrev pub groups_node : ExprKind-F (List (List GroupEntry)) (List (List GroupEntry)) → List (List GroupEntry)
-groups_node (ExprKind-F.Letrec g b) = g ∷ b
-groups_node e = in_parts e
-
-abbrev pub groups_in : Expr → List (List GroupEntry)
-groups_in = fold-Expr (List (List GroupEntry)) (List (List GroupEntry)) groups_node (λ e. e.kind)
-
--- the lambdas of a group
-abbrev pub lambdas_of : List GroupEntry → List ℕ
-lambdas_of g = map (λ (e : GroupEntry). e.lambda) g
-
--- the locals of a group
-abbrev pub locals_of : List GroupEntry → List ℕ
-locals_of g = map (λ (e : GroupEntry). e.local) g
-
--- the lambdas that stand in it, those of groups too
-abbrev pub lambdas_node : ExprKind-F (List ℕ) (List ℕ) → List ℕ
-lambdas_node (ExprKind-F.Lambda l) = l ∷ []
-lambdas_node (ExprKind-F.Letrec g b) = lambdas_of g ++ b
-lambdas_node e = in_parts e
-
-abbrev pub lambdas_in : Expr → List ℕ
-lambdas_in = fold-Expr (List ℕ) (List ℕ) lambdas_node (λ e. e.kind)
+expr_at at kind = roll-Expr (record { place = at; kind = kind })
 
 -- the expression of a form
 abbrev pub expr_of : Form → Expr
 expr_of (Define g e) = e
 expr_of (Do e) = e
 
--- ---- lambdas
+-- the marks of forms, read to so many levels: their expressions stand in no tail position, and no local is in scope
+abbrev pub form_marks : Kernel → ℕ → List Form → List Mark
+form_marks k n fs = flat_map (λ f. marks k n false [] (Whole (expr_of f))) fs
 
-module _ (k : Kernel) where
-  -- the locals that the text of a lambda mentions, as far as lambdas stand n deep in each other
-  abbrev pub locals_of_lambda : (ℕ → List ℕ) → Option Lambda → List ℕ
-  locals_of_lambda inner None = []
-  locals_of_lambda inner (Some m) = locals_in m.body ++ joined (map inner (lambdas_in m.body))
+unfoldable pub text : Kernel → List Mark
+text k = form_marks k most_depth k.forms
 
-  abbrev pub locals_within : ℕ → ℕ → List ℕ
-  locals_within zero l = []
-  locals_within (suc n) l = locals_of_lambda (locals_within n) (slice_get k.lambdas l)
+-- the text of a lambda: its parameters and its body, with the lambdas inside
+unfoldable pub lambda_text : Kernel → ℕ → List Mark
+lambda_text k l = body_marks (marks k most_depth) [] (slice_get k.lambdas l)
 
-  abbrev pub text_locals : ℕ → List ℕ
-  text_locals l = locals_within (length k.lambdas) l
+unfoldable pub group_of : Kernel → ℕ → List GroupEntry
+group_of k l = group_in l (text k)
 
-  -- the text of a lambda mentions a local
-  abbrev pub text_mentions : ℕ → ℕ → Bool
-  text_mentions l x = list_any (λ y. y == x) (text_locals l)
+unfoldable pub entry_of : Kernel → ℕ → Option GroupEntry
+entry_of k x = entry_in x (text k)
 
-  -- the letrec groups of the whole kernel: those of the forms, and then those of the bodies
-  abbrev pub all_groups : List (List GroupEntry)
-  all_groups = joined (map (λ (f : Form). groups_in (expr_of f)) k.forms) ++ joined (map (λ (m : Lambda). groups_in m.body) k.lambdas)
+-- ---- definitions
 
-  -- the entry of a local that a letrec binds
-  abbrev pub first_where : {A : Type 0} → (A → Bool) → List A → Option A
-  first_where is [] = None
-  first_where is (x ∷ xs) = if is x then Some x else first_where is xs
+-- the lambda that an expression is
+abbrev pub lambda_node : ExprKind-F (Option ℕ) (Option ℕ) (Option ℕ) → Option ℕ
+lambda_node (ExprKind-F.Lambda l) = Some l
+lambda_node _ = None
 
-  abbrev pub entry_of : ℕ → Option GroupEntry
-  entry_of x = first_where (λ (e : GroupEntry). e.local == x) (joined all_groups)
+abbrev pub lambda_in : Expr → Option ℕ
+lambda_in = fold-Expr (Option ℕ) (Option ℕ) (Option ℕ) lambda_node (λ e. e.kind) (λ b. b.body)
 
-  abbrev pub group_or_none : Option (List GroupEntry) → List GroupEntry
-  group_or_none None = []
-  group_or_none (Some g) = g
+-- a definition whose form defines it by a lambda is a procedure definition
+abbrev pub defined_by : ℕ → List Form → Option ℕ
+defined_by g [] = None
+defined_by g (Define d e ∷ fs) = if g == d then lambda_in e else defined_by g fs
+defined_by g (Do e ∷ fs) = defined_by g fs
 
-  -- the group in which a lambda stands, or no entries where it stands in none
-  abbrev pub group_of : ℕ → List GroupEntry
-  group_of l = group_or_none (first_where (λ g. list_any (λ (e : GroupEntry). e.lambda == l) g) all_groups)
+abbrev pub procedure_of : Kernel → ℕ → Option ℕ
+procedure_of k g = defined_by g k.forms

@@ -1,45 +1,24 @@
 -- The rules of a kernel, which are this project's own where no section of R5RS is named.
 --
--- Read the last record first: a kernel is valid where it keeps each of the named rules. Those of its text speak of the marks
--- of its forms, one behind the other (`Marks`), and `Rules` says what is right of them.
+-- Read the last record first: a kernel is valid where it keeps each of the named rules. Those of its text stand in `Rules`, and
+-- speak of the marks of its forms, one behind the other (`Marks`).
 use Rattle.std.specs.Prelude.{◌≡◌, ℕ, suc, ◌<◌, ◌≤◌, nat_lt, max, Bool, true, false, ◌&&◌, List, [], ◌∷◌, length}
-use Rattle.std.specs.List.{flat_map, list_all}
+use Rattle.std.specs.List.{list_all}
 use Rattle.ps_datum.specs.declared.datum.Datum.{Datum, fold-Datum, out-Datum}
 use Rattle.ps_datum.specs.declared.datum.DatumKind.{DatumKind, out-DatumKind}
 use Rattle.ps_datum.specs.declared.datum.DatumKind.TheOpen.{DatumKind-F}
 use Rattle.ps_types.specs.declared.types.Ty.{Ty, Ty-F, fold-Ty}
 use Rattle.ps_types.specs.declared.types.RecordKind.{RecordKind}
-use Rattle.ps_kernel.specs.declared.kernel.Form.{Form}
-use Rattle.ps_kernel.specs.declared.kernel.Form.TheVariants.{Define, Do}
 use Rattle.ps_kernel.specs.declared.kernel.Kernel.{Kernel}
-use Rattle.ps_kernel.specs.Most.{most_depth, most_nodes}
-use Rattle.ps_kernel.specs.Once.{AtMostOnce, EachOnce}
-use Rattle.ps_kernel.specs.Texts.{expr_of}
-use Rattle.ps_kernel.specs.Marks.{Mark, marks}
-use Rattle.ps_kernel.specs.Rules.{has_number, has_operands, has_parts, has_tail, has_level, nodes, standing, bound, is_in_scope}
-
--- a fact on each member of a list
-abbrev pub Each : {A : Type 0} → (A → Type 0) → List A → Type 0
-Each P [] = Unit {0}
-Each P (x ∷ xs) = P x × Each P xs
+use Rattle.ps_kernel.specs.Most.{most_depth}
+use Rattle.ps_prims.specs.Once.{EachOnce}
+use Rattle.ps_prims.specs.Kinds.{IsFilled}
+use Rattle.ps_kernel.specs.Lists.{Each}
+use Rattle.ps_kernel.specs.Texts.{text}
+use Rattle.ps_kernel.specs.Rules.{defined, IsRightText, CapturedStay}
 
 abbrev pub all_of : List Bool → Bool
 all_of bs = list_all (λ b. b) bs
-
--- ---- forms
-
--- the definitions that have forms
-abbrev pub defined : List Form → List ℕ
-defined [] = []
-defined (Define g e ∷ fs) = g ∷ defined fs
-defined (Do e ∷ fs) = defined fs
-
--- the marks of forms, read to so many levels: their expressions stand in no tail position, and no local is in scope
-abbrev pub form_marks : Kernel → ℕ → List Form → List Mark
-form_marks k n fs = flat_map (λ f. marks k n false [] (expr_of f)) fs
-
-unfoldable pub text : Kernel → List Mark
-text k = form_marks k most_depth k.forms
 
 -- ---- literals (R5RS 4.1.2)
 
@@ -109,32 +88,12 @@ abbrev pub is_field_type : ℕ → Ty → Bool
 is_field_type n = fold-Ty Bool (field_node n)
 
 pub record IsKind (n : ℕ) (kind : RecordKind) : Type 0 where
-  pub fields : 0 < length kind.fields
+  pub filled : IsFilled kind
   pub types : list_all (is_field_type n) kind.fields ≡ true
-  -- its maker names each field once
-  pub maker : EachOnce (length kind.fields) kind.maker
 
 -- ---- kernels
 
--- the rules of the text of a kernel, by its marks
-pub record IsRightText (k : Kernel) (ms : List Mark) : Type 0 where
-  -- a definition, a literal, a kind or a field that is named by its number is there
-  pub numbers : list_all (has_number k) ms ≡ true
-  -- a primitive has its row's number of operands
-  pub operands : list_all (has_operands k) ms ≡ true
-  -- a sequence has at least one part (R5RS 4.2.3)
-  pub parts : list_all has_parts ms ≡ true
-  -- a proper call stands in tail position of a lambda (R5RS 3.5)
-  pub tails : list_all has_tail ms ≡ true
-  -- each lambda stands at one place, and is reached from the forms
-  pub lambdas : EachOnce (length k.lambdas) (standing ms)
-  -- each local is bound at one place at most
-  pub bound_once : AtMostOnce (bound ms)
-  -- each local that is mentioned is in scope there (R5RS 3.1)
-  pub in_scope : list_all is_in_scope ms ≡ true
-  pub size : nodes ms ≤ most_nodes
-  pub depth : list_all has_level ms ≡ true
-
+-- what a kernel keeps that `valid` answers true of
 pub record IsValid (k : Kernel) : Type 0 where
   pub main : k.main < length k.definitions
   -- each definition has one form (R5RS 5.2.1)
@@ -142,3 +101,5 @@ pub record IsValid (k : Kernel) : Type 0 where
   pub literals : Each IsLiteral k.literals
   pub kinds : Each (IsKind (length k.kinds)) k.kinds
   pub rules : IsRightText k (text k)
+  -- no local is assigned that the list of a lambda says it keeps
+  pub captured_stay : CapturedStay k

@@ -8,11 +8,13 @@
 --           (f k))))
 use Rattle.std.specs.Prelude.{ℕ, List, [], ◌∷◌, pos}
 use Rattle.ps_base.specs.declared.faults.Place.{Place}
+use Rattle.ps_kernel.specs.declared.expr.CaseKind.TheVariants as cases
 use Rattle.ps_kernel.specs.declared.expr.Constant.TheVariants as constants
 use Rattle.ps_kernel.specs.declared.expr.Expr.{Expr}
 use Rattle.ps_kernel.specs.declared.expr.ExprKind.{ExprKind}
-use Rattle.ps_kernel.specs.declared.expr.ExprKind.TheVariants.{Constant, Local, Lambda as Stands, If, Let, Letrec, Call}
+use Rattle.ps_kernel.specs.declared.expr.ExprKind.TheVariants.{Constant, Local, Lambda as Stands, If, Let, Letrec, Case, Call}
 use Rattle.ps_kernel.specs.declared.expr.GroupEntry.{GroupEntry}
+use Rattle.ps_kernel.specs.declared.expr.Labelled.{Labelled, roll-Labelled}
 use Rattle.ps_kernel.specs.declared.kernel.Form.TheVariants.{Define, Do}
 use Rattle.ps_kernel.specs.declared.kernel.Kernel.{Kernel}
 use Rattle.ps_kernel.specs.declared.kernel.Lambda.{Lambda}
@@ -72,10 +74,18 @@ pub record ExampleKeeps : Type 0 where
   pub of_g : IsCaptured example 2 (0 ∷ [])
   pub of_inner : IsCaptured example 3 (0 ∷ 1 ∷ 4 ∷ [])
 
--- (define (main) 7) and then 7: the body stands one level below its lambda, and is counted where the lambda stands
+abbrev pub branch : Labelled
+branch = roll-Labelled (record { labels = pos 1 ∷ pos 2 ∷ []; body = seven })
+
+-- (case 7 ((1 2) 7) (else 7))
+abbrev pub chosen : Expr
+chosen = node (Case cases.Integer seven (branch ∷ []) seven)
+
+-- (define (main) 7) and then the case. The body stands one level below its lambda, and is counted where the lambda stands. The
+-- case counts as (let ((h 7)) (if (if (= h 1) #t (= h 2)) 7 7)): the operands of = stand on the fifth level.
 abbrev pub sized : Kernel
-sized = record example { lambdas = lambda_with [] [] seven ∷ []; forms = Define 0 (node (Stands 0)) ∷ Do seven ∷ [] }
+sized = record example { lambdas = lambda_with [] [] seven ∷ []; forms = Define 0 (node (Stands 0)) ∷ Do chosen ∷ [] }
 
 pub record ExampleSizes : Type 0 where
-  pub depth : HasDepth sized 2
-  pub count : HasNodes sized 3
+  pub depth : HasDepth sized 5
+  pub count : HasNodes sized 15

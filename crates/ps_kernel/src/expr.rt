@@ -19,21 +19,6 @@ pub enum Constant {
     Quoted(u32),
 }
 
-/// What a primitive node does to the values of its operands.
-#[derive(Clone, Copy, Debug, PartialEq, Eq)]
-pub enum Operation {
-    /// A primitive with a name of its own.
-    Named(Prim),
-    /// Makes a record of the kind of this number.
-    Maker(u32),
-    /// Tells whether a record of this kind is not null.
-    Predicate(u32),
-    /// Reads a field: the kind, and the field of it.
-    Accessor(u32, u32),
-    /// Writes a field: the kind, and the field of it.
-    Modifier(u32, u32),
-}
-
 /// A local that a `letrec` binds, and the lambda that it stands for.
 #[derive(Clone, Copy, Debug, PartialEq, Eq)]
 pub struct GroupEntry {
@@ -48,6 +33,31 @@ pub type Group = Items<GroupEntry>;
 
 /// Expressions in order.
 pub type Exprs = Items<Expr>;
+
+/// Whether the labels of a `case` are integers or the codes of characters (R5RS 4.2.1).
+#[derive(Clone, Copy, Debug, PartialEq, Eq)]
+pub enum CaseKind {
+    /// Integers.
+    Integer,
+    /// Characters, by their codes from 0 to 255.
+    Char,
+}
+
+/// Labels in order.
+pub type Labels = Items<i64>;
+
+/// The branches of a `case`, in order.
+pub type Branches = Items<Labelled>;
+
+/// A branch of a `case`: its labels, of which it has at least one, and what is evaluated where the key is one of them.
+#[cycle(kernel)]
+#[derive(Debug, Drop)]
+pub struct Labelled {
+    /// The labels.
+    pub labels: Labels,
+    /// The expression.
+    pub body: Expr,
+}
 
 /// An expression, with the place of the form that it was made of.
 #[cycle(kernel)]
@@ -81,10 +91,15 @@ pub enum ExprKind {
     Begin(Exprs),
     /// The assignment of a value to a definition (R5RS 4.1.6).
     SetGlobal(u32, Boxed<Expr>),
+    /// The assignment of a value to a local, which no letrec binds and no procedure keeps (R5RS 4.1.6).
+    SetLocal(u32, Boxed<Expr>),
+    /// A key, the branches, of which all labels differ, and the expression where no branch has the key's value (R5RS 4.2.1).
+    Case(CaseKind, Boxed<Expr>, Branches, Boxed<Expr>),
     /// A call that nests: its operator and its operands (R5RS 4.1.3).
     Call(Boxed<Expr>, Exprs),
     /// A call in tail position that takes the place of the procedure in which it stands (R5RS 3.5).
     ProperCall(Boxed<Expr>, Exprs),
-    /// A primitive and its operands.
-    Primitive(Operation, Exprs),
+    /// A primitive of the table, and its operands. `null-address` may stand here too, without operands, and gives what the
+    /// constant of its name is.
+    Primitive(Prim, Exprs),
 }

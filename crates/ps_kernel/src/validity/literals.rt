@@ -2,7 +2,8 @@
 
 ghost use Rattle.std.specs.Prelude.{◌≡◌, ◌↔◌, true};
 ghost use Rattle.std.specs.List.{list_all};
-ghost use Rattle.ps_kernel.specs.Valid.{Each, IsLiteral};
+ghost use Rattle.ps_kernel.specs.Lists.{Each};
+ghost use Rattle.ps_kernel.specs.Valid.{IsLiteral};
 ghost use Rattle.ps_kernel.specs.InsideWalks.{is_stored_within, is_literal};
 
 use crate::validity::DEPTH;

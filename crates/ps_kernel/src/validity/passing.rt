@@ -2,15 +2,16 @@
 
 ghost use Rattle.std.specs.Prelude.{◌≡◌, [], map, OnOk};
 ghost use Rattle.std.specs.List.{fold};
-ghost use Rattle.ps_kernel.specs.Marks.{Node, TooDeep, Stands, Mentions, Names, Sequence, Replaces, Performs};
-ghost use Rattle.ps_kernel.specs.InsideSteps.{Passes, Closes, opens, opens_entry, closes_entry, constant_steps};
+ghost use Rattle.ps_kernel.specs.Marks.{Node, TooDeep, Stands, BindsEntry, Mentions, Sets, Reads, Assigns, Sequence, Replaces, Performs, Chooses};
+ghost use Rattle.ps_kernel.specs.InsideSteps.{Passes, Closes, nowhere, opens, opens_parameter, opens_entry, closes_entry, constant_steps};
 ghost use Rattle.ps_kernel.specs.InsideWalks.{step, checked};
 
-use crate::expr::{Constant, GroupEntry, Operation};
+use crate::expr::{CaseKind, Constant, GroupEntry, Labelled};
 use crate::kernel::Kernel;
-use crate::validity::operations::{is_known, operands_of};
+use crate::validity::branches::may_stand;
 use crate::validity::walk::Walk;
-use ps_base::NoMemory;
+use ps_base::{NoMemory, Prim};
+use ps_prims::{arity_of, is_there};
 
 // The most nodes that a kernel may have.
 const NODES: u64 = 1_000_000;
@@ -18,7 +19,7 @@ const NODES: u64 = 1_000_000;
 /// An expression.
 #[tactic(auto, unfolding(crate::specs::InsideWalks::step))]
 pub fn meet_node(walk: &mut Walk, kernel: &Kernel)
-    ensures { walk.new ≡ step kernel.now walk.old (Passes Node) }
+    ensures { walk.new ≡ step kernel.now walk.old (Passes (Node nowhere)) }
 {
     if walk.right {
         if walk.nodes < NODES {
@@ -40,7 +41,7 @@ pub fn meet_too_deep(walk: &mut Walk, kernel: &Kernel)
 /// A lambda, where it stands.
 #[tactic(auto, unfolding(crate::specs::InsideWalks::step))]
 pub fn meet_lambda(walk: &mut Walk, kernel: &Kernel, lambda: u32)
-    ensures { walk.new ≡ step kernel.now walk.old (Passes (Stands lambda)) }
+    ensures { walk.new ≡ step kernel.now walk.old (Passes (Stands lambda [])) }
 {
     if walk.right {
         match walk.stands.get(lambda as usize) {
@@ -60,6 +61,37 @@ pub fn open(walk: &mut Walk, kernel: &Kernel, local: u32) -> Result<(), NoMemory
         match walk.locals.get(local) {
             Some(_) => walk.right = false,
             None => walk.locals.set(local, true)?,
+        }
+    }
+    Ok(())
+}
+
+/// The region of a parameter begins.
+#[tactic(auto, unfolding(crate::specs::InsideWalks::step))]
+pub fn open_parameter(walk: &mut Walk, kernel: &Kernel, local: u32) -> Result<(), NoMemory>
+    ensures { OnOk result (walk.new ≡ step kernel.now walk.old (opens_parameter local)) }
+{
+    if walk.right {
+        match walk.locals.get(local) {
+            Some(_) => walk.right = false,
+            None => walk.locals.set(local, true)?,
+        }
+    }
+    Ok(())
+}
+
+/// The region of a local of a group begins.
+#[tactic(auto, unfolding(crate::specs::InsideWalks::step))]
+pub fn open_entry(walk: &mut Walk, kernel: &Kernel, entry: GroupEntry) -> Result<(), NoMemory>
+    ensures { OnOk result (walk.new ≡ step kernel.now walk.old (opens_entry entry)) }
+{
+    if walk.right {
+        match walk.locals.get(entry.local) {
+            Some(_) => walk.right = false,
+            None => {
+                walk.locals.set(entry.local, true)?;
+                walk.entries.push(entry.local)?;
+            }
         }
     }
     Ok(())
@@ -93,12 +125,27 @@ pub fn mention(walk: &mut Walk, kernel: &Kernel, local: u32)
     }
 }
 
+/// A local is assigned.
+#[tactic(auto, unfolding(crate::specs::InsideWalks::step))]
+pub fn assign(walk: &mut Walk, kernel: &Kernel, local: u32) -> Result<(), NoMemory>
+    ensures { OnOk result (walk.new ≡ step kernel.now walk.old (Passes (Sets local []))) }
+{
+    if walk.right {
+        match walk.locals.get(local) {
+            Some(true) => walk.assigned.push(local)?,
+            Some(false) => walk.right = false,
+            None => walk.right = false,
+        }
+    }
+    Ok(())
+}
+
 /// The regions of locals begin.
 pub fn open_all(walk: &mut Walk, kernel: &Kernel, locals: &[u32]) -> Result<(), NoMemory>
-    ensures { OnOk result (walk.new ≡ fold (step kernel.now) walk.old (map opens locals.now)) }
+    ensures { OnOk result (walk.new ≡ fold (step kernel.now) walk.old (map opens_parameter locals.now)) }
 {
     for local in locals {
-        open(walk, kernel, *local)?;
+        open_parameter(walk, kernel, *local)?;
     }
     Ok(())
 }
@@ -118,7 +165,7 @@ pub fn open_group(walk: &mut Walk, kernel: &Kernel, group: &[GroupEntry]) -> Res
     ensures { OnOk result (walk.new ≡ fold (step kernel.now) walk.old (map opens_entry group.now)) }
 {
     for entry in group {
-        open(walk, kernel, entry.local)?;
+        open_entry(walk, kernel, *entry)?;
     }
     Ok(())
 }
@@ -143,10 +190,19 @@ fn check(walk: &mut Walk, right: bool)
     }
 }
 
-/// A definition is named.
+/// A definition is read.
 #[tactic(auto, unfolding(crate::specs::InsideWalks::checked, crate::specs::InsideWalks::step))]
-pub fn name_global(walk: &mut Walk, kernel: &Kernel, global: u32)
-    ensures { walk.new ≡ step kernel.now walk.old (Passes (Names global)) }
+pub fn read_global(walk: &mut Walk, kernel: &Kernel, global: u32)
+    ensures { walk.new ≡ step kernel.now walk.old (Passes (Reads nowhere global)) }
+{
+    let right = (global as usize) < kernel.definitions.len();
+    check(walk, right)
+}
+
+/// A definition is assigned.
+#[tactic(auto, unfolding(crate::specs::InsideWalks::checked, crate::specs::InsideWalks::step))]
+pub fn assign_global(walk: &mut Walk, kernel: &Kernel, global: u32)
+    ensures { walk.new ≡ step kernel.now walk.old (Passes (Assigns nowhere global)) }
 {
     let right = (global as usize) < kernel.definitions.len();
     check(walk, right)
@@ -178,6 +234,14 @@ pub fn begin(walk: &mut Walk, kernel: &Kernel, parts: usize)
     check(walk, parts > 0)
 }
 
+/// A case with these branches.
+#[tactic(auto, unfolding(crate::specs::InsideWalks::checked, crate::specs::InsideWalks::step))]
+pub fn choose(walk: &mut Walk, kernel: &Kernel, kind: CaseKind, branches: &[Labelled])
+    ensures { walk.new ≡ step kernel.now walk.old (Passes (Chooses kind branches.now)) }
+{
+    check(walk, may_stand(kind, branches))
+}
+
 /// A call that takes the place of its procedure, in tail position or not.
 #[tactic(auto, unfolding(crate::specs::InsideWalks::checked, crate::specs::InsideWalks::step))]
 pub fn replace(walk: &mut Walk, kernel: &Kernel, tail: bool)
@@ -188,9 +252,9 @@ pub fn replace(walk: &mut Walk, kernel: &Kernel, tail: bool)
 
 /// A primitive with so many operands.
 #[tactic(auto, unfolding(crate::specs::InsideWalks::checked, crate::specs::InsideWalks::step))]
-pub fn perform(walk: &mut Walk, kernel: &Kernel, operation: Operation, operands: usize)
-    ensures { walk.new ≡ step kernel.now walk.old (Passes (Performs operation operands)) }
+pub fn perform(walk: &mut Walk, kernel: &Kernel, prim: Prim, operands: usize)
+    ensures { walk.new ≡ step kernel.now walk.old (Passes (Performs nowhere prim operands)) }
 {
-    let right = is_known(kernel, operation) && operands == operands_of(kernel, operation);
+    let right = is_there(prim, &kernel.kinds) && operands == arity_of(prim, &kernel.kinds);
     check(walk, right)
 }

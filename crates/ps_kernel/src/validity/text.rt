@@ -1,13 +1,14 @@
 //! The text of a kernel.
 
-ghost use Rattle.std.specs.Prelude.{◌≡◌, ◌↔◌, [], true, false, IfOk, OnOk, length};
-ghost use Rattle.std.specs.List.{fold};
+ghost use Rattle.std.specs.Prelude.{◌≡◌, ◌↔◌, ◌&&◌, [], true, false, IfOk, OnOk, length};
+ghost use Rattle.std.specs.List.{fold, list_all};
 ghost use Rattle.std.proofs.Math.ListN.{replicate};
-ghost use Rattle.ps_kernel.specs.Valid.{IsRightText, text, defined};
+ghost use Rattle.ps_kernel.specs.Rules.{CapturedStay, IsRightText, defined};
+ghost use Rattle.ps_kernel.specs.Texts.{text};
 ghost use Rattle.ps_kernel.specs.InsideSteps.{form_steps};
-ghost use Rattle.ps_kernel.specs.InsideWalks.{step, starts};
+ghost use Rattle.ps_kernel.specs.InsideWalks.{has_none, keeps_none, put, starts, step};
 
-use crate::kernel::{Form, Kernel, Numbers};
+use crate::kernel::{Form, Kernel, Lambda, Numbers};
 use crate::validity::DEPTH;
 use crate::validity::locals::Locals;
 use crate::validity::once::{all_set, unset};
@@ -24,6 +25,8 @@ fn start(alloc: Global, kernel: &Kernel) -> Result<Walk, NoMemory>
         nodes: 0,
         stands: unset(alloc, kernel.lambdas.len())?,
         locals: Locals::new(alloc),
+        assigned: Numbers::new(alloc),
+        entries: Numbers::new(alloc),
     })
 }
 
@@ -40,18 +43,67 @@ fn walk_forms(walk: &mut Walk, kernel: &Kernel, forms: &[Form], levels: u32) -> 
     Ok(())
 }
 
+// A table of numbers.
+fn table_of(alloc: Global, numbers: &[u32]) -> Result<Locals, NoMemory>
+    ensures { IfOk result (λ table. table ≡ fold put [] numbers.now) }
+{
+    let mut table = Locals::new(alloc);
+    for number in numbers {
+        table.set(*number, true)?;
+    }
+    Ok(table)
+}
+
+// Whether a table has none of these numbers.
+fn none_in(table: &Locals, numbers: &[u32]) -> bool
+    ensures { result ≡ has_none table.now numbers.now }
+{
+    for number in numbers {
+        match table.get(*number) {
+            Some(_) => return false,
+            None => {}
+        }
+    }
+    true
+}
+
+// Whether a table has none of the locals that procedures keep.
+fn none_kept(table: &Locals, lambdas: &[Lambda]) -> bool
+    ensures { result ≡ keeps_none table.now lambdas.now }
+{
+    for lambda in lambdas {
+        if !none_in(table, lambda.captured.as_slice()) {
+            return false;
+        }
+    }
+    true
+}
+
+// What is left to be right where a walk has met all marks.
+fn rest_is_right(walk: &Walk, kernel: &Kernel, table: &Locals) -> bool
+    ensures { result ≡ (list_all (λ b. b) walk.now.stands && (has_none table.now walk.now.entries && keeps_none table.now kernel.now.lambdas)) }
+{
+    if !all_set(walk.stands.as_slice()) {
+        return false;
+    }
+    if !none_in(table, walk.entries.as_slice()) {
+        return false;
+    }
+    none_kept(table, kernel.lambdas.as_slice())
+}
+
 #[tactic(auto, using(crate::proofs::WalkTellsRules::stopped_text, crate::proofs::WalkTellsRules::whole_text))]
 /// Whether the text of a kernel keeps the rules.
 pub fn is_right(alloc: Global, kernel: &Kernel) -> Result<bool, NoMemory>
-    ensures { IfOk result (λ right. (right ≡ true) ↔ IsRightText kernel.now (text kernel.now)) }
+    ensures { IfOk result (λ right. (right ≡ true) ↔ (IsRightText kernel.now (text kernel.now) × CapturedStay kernel.now)) }
 {
     let mut walk = start(alloc, kernel)?;
     walk_forms(&mut walk, kernel, kernel.forms.as_slice(), DEPTH)?;
-    if walk.right {
-        Ok(all_set(walk.stands.as_slice()))
-    } else {
-        Ok(false)
+    if !walk.right {
+        return Ok(false);
     }
+    let table = table_of(alloc, walk.assigned.as_slice())?;
+    Ok(rest_is_right(&walk, kernel, &table))
 }
 
 /// The definitions that have forms, in order of the forms.

@@ -2,15 +2,16 @@
 
 ghost use Rattle.std.specs.Prelude.{◌≡◌, OnOk};
 ghost use Rattle.std.specs.List.{fold};
-ghost use Rattle.ps_kernel.specs.InsideSteps.{sequence_steps, part_steps, if_steps, let_steps, letrec_steps, call_steps, lambda_steps, group_steps, steps, kind_steps};
+ghost use Rattle.ps_kernel.specs.InsideSteps.{Entire, Branch, branch_of, sequence_steps, part_steps, if_steps, let_steps, letrec_steps, case_steps, call_steps, lambda_steps, group_steps, steps, kind_steps};
 ghost use Rattle.ps_kernel.specs.InsideWalks.{step};
 
-use crate::expr::{Expr, ExprKind, GroupEntry};
-use crate::kernel::Kernel;
+use crate::expr::{Expr, ExprKind, GroupEntry, Labelled};
+use crate::kernel::{Kernel, Numbers};
+use crate::validity::labels::walk_labels;
 use crate::validity::locals::Locals;
 use crate::validity::passing::{
-    begin, close, close_all, close_group, meet_lambda, meet_node, meet_too_deep, mention,
-    name_global, open, open_all, open_group, perform, quote, replace,
+    assign, assign_global, begin, choose, close, close_all, close_group, meet_lambda, meet_node,
+    meet_too_deep, mention, open, open_all, open_group, perform, quote, read_global, replace,
 };
 use ps_base::{Flags, NoMemory};
 
@@ -25,6 +26,10 @@ pub struct Walk {
     pub stands: Flags,
     /// The locals.
     pub locals: Locals,
+    /// The locals that are assigned.
+    pub assigned: Numbers,
+    /// The locals that letrecs bind.
+    pub entries: Numbers,
 }
 
 /// An expression, and what stands in it.
@@ -36,7 +41,7 @@ pub fn walk_expr(
     tail: bool,
     left: u32,
 ) -> Result<(), NoMemory>
-    ensures { OnOk result (walk.new ≡ fold (step kernel.now) walk.old (steps kernel.now left tail e.now)) }
+    ensures { OnOk result (walk.new ≡ fold (step kernel.now) walk.old (steps kernel.now left tail (Entire e.now))) }
 {
     if !walk.right {
         return Ok(());
@@ -63,7 +68,7 @@ fn walk_kind(
     match kind {
         ExprKind::Constant(constant) => quote(walk, kernel, *constant),
         ExprKind::Local(local) => mention(walk, kernel, *local),
-        ExprKind::Global(global) => name_global(walk, kernel, *global),
+        ExprKind::Global(global) => read_global(walk, kernel, *global),
         ExprKind::Lambda(lambda) => walk_lambda(walk, kernel, *lambda, left)?,
         ExprKind::If(test, yes, no) => {
             walk_choice(walk, kernel, test.get(), yes.get(), no.get(), tail, left)?;
@@ -79,8 +84,24 @@ fn walk_kind(
             walk_sequence(walk, kernel, parts.as_slice(), tail, left)?;
         }
         ExprKind::SetGlobal(global, value) => {
-            name_global(walk, kernel, *global);
+            assign_global(walk, kernel, *global);
             walk_expr(walk, kernel, value.get(), false, left)?;
+        }
+        ExprKind::SetLocal(local, value) => {
+            assign(walk, kernel, *local)?;
+            walk_expr(walk, kernel, value.get(), false, left)?;
+        }
+        ExprKind::Case(kind, key, branches, last) => {
+            choose(walk, kernel, *kind, branches.as_slice());
+            walk_case(
+                walk,
+                kernel,
+                key.get(),
+                branches.as_slice(),
+                last.get(),
+                tail,
+                left,
+            )?;
         }
         ExprKind::Call(operator, operands) => {
             walk_call(walk, kernel, operator.get(), operands.as_slice(), left)?;
@@ -89,8 +110,8 @@ fn walk_kind(
             replace(walk, kernel, tail);
             walk_call(walk, kernel, operator.get(), operands.as_slice(), left)?;
         }
-        ExprKind::Primitive(operation, operands) => {
-            perform(walk, kernel, *operation, operands.len());
+        ExprKind::Primitive(prim, operands) => {
+            perform(walk, kernel, *prim, operands.len());
             walk_parts(walk, kernel, operands.as_slice(), left)?;
         }
     }
@@ -150,6 +171,67 @@ fn walk_letrec(
     walk_group(walk, kernel, group, left)?;
     walk_expr(walk, kernel, body, tail, left)?;
     close_group(walk, kernel, group)
+}
+
+// The key of a case, and its branches.
+#[cycle(walking)]
+fn walk_case(
+    walk: &mut Walk,
+    kernel: &Kernel,
+    key: &Expr,
+    branches: &[Labelled],
+    last: &Expr,
+    tail: bool,
+    left: u32,
+) -> Result<(), NoMemory>
+    ensures { OnOk result (walk.new ≡ fold (step kernel.now) walk.old (case_steps (steps kernel.now left) tail key.now branches.now last.now)) }
+{
+    walk_expr(walk, kernel, key, false, left)?;
+    walk_branches(walk, kernel, branches, last, tail, left)
+}
+
+// The branches of a case, each an if whose last part is the rest.
+#[cycle(walking)]
+fn walk_branches(
+    walk: &mut Walk,
+    kernel: &Kernel,
+    branches: &[Labelled],
+    last: &Expr,
+    tail: bool,
+    left: u32,
+) -> Result<(), NoMemory>
+    ensures { OnOk result (walk.new ≡ fold (step kernel.now) walk.old (steps kernel.now left tail (branch_of branches.now last.now))) }
+{
+    match branches.split_first() {
+        None => walk_expr(walk, kernel, last, tail, left),
+        Some((branch, rest)) => walk_branch(walk, kernel, branch, rest, last, tail, left),
+    }
+}
+
+// The if of a branch, and those behind it.
+#[cycle(walking)]
+fn walk_branch(
+    walk: &mut Walk,
+    kernel: &Kernel,
+    branch: &Labelled,
+    rest: &[Labelled],
+    last: &Expr,
+    tail: bool,
+    left: u32,
+) -> Result<(), NoMemory>
+    ensures { OnOk result (walk.new ≡ fold (step kernel.now) walk.old (steps kernel.now left tail (Branch branch.now rest.now last.now))) }
+{
+    if !walk.right {
+        return Ok(());
+    }
+    if left == 0 {
+        meet_too_deep(walk, kernel);
+        return Ok(());
+    }
+    meet_node(walk, kernel);
+    walk_labels(walk, kernel, branch.labels.as_slice(), false, left - 1);
+    walk_expr(walk, kernel, &branch.body, tail, left - 1)?;
+    walk_branches(walk, kernel, rest, last, tail, left - 1)
 }
 
 // The operator and the operands of a call.

@@ -19,6 +19,15 @@ decreases-walk_let l = 8 * l.left + 3
 abbrev pub decreases-walk_letrec : goal.decreases-walk_letrec
 decreases-walk_letrec l = 8 * l.left + 3
 
+abbrev pub decreases-walk_case : goal.decreases-walk_case
+decreases-walk_case l = 8 * l.left + 3
+
+abbrev pub decreases-walk_branches : goal.decreases-walk_branches
+decreases-walk_branches l = 8 * l.left + 2
+
+abbrev pub decreases-walk_branch : goal.decreases-walk_branch
+decreases-walk_branch l = 8 * l.left + 1
+
 abbrev pub decreases-walk_call : goal.decreases-walk_call
 decreases-walk_call l = 8 * l.left + 3
 
