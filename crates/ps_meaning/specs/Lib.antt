@@ -1,9 +1,9 @@
 pub mod Values
-pub mod Run
-pub mod Records
 pub mod Literals
 pub mod Eval
 pub mod Source
 pub mod Laws
 pub mod RunOnly
 pub mod Embedding
+pub mod Unfolds
+pub mod Left

@@ -1,7 +1,7 @@
 -- What has a meaning at run time alone is told at its own place, before its parts (this project's own).
 --
 -- Read a line of `RunOnlyAtItsPlace` as: at compile time this form, at this place, stops every run as run-only at the place,
--- and leaves the state as it was.
+-- and leaves the state as it was, without its locals.
 use Rattle.std.specs.Prelude.{◌≡◌, ℕ, List, true, Some, None}
 use Rattle.std.specs.List.{list_any}
 use Rattle.ps_base.specs.declared.faults.Place.{Place}
@@ -14,18 +14,17 @@ use Rattle.ps_prims.specs.Rows.{row}
 use Rattle.ps_kernel.specs.declared.expr.Expr.{Expr}
 use Rattle.ps_kernel.specs.declared.expr.ExprKind.{ExprKind}
 use Rattle.ps_kernel.specs.declared.expr.ExprKind.TheVariants.{Local, Global, Lambda, Letrec, SetGlobal, Call, ProperCall}
-use Rattle.ps_kernel.specs.declared.expr.Operation.TheVariants.{Named}
 use Rattle.ps_kernel.specs.declared.expr.GroupEntry.{GroupEntry}
 use Rattle.ps_kernel.specs.declared.kernel.Kernel.{Kernel}
 use Rattle.ps_kernel.specs.Texts.{expr_at}
-use Rattle.ps_meaning.specs.Values.{compile_locals}
-use Rattle.ps_meaning.specs.Run.{State, Stops, RunOnly}
-use Rattle.ps_meaning.specs.Eval.{CompileEnter, procedure_of, letrec_lambda, keeps_locals, part_of, compile, operation}
+use Rattle.ps_kernel.specs.Texts.{procedure_of}
+use Rattle.ps_runs.specs.Runs.{State, Stops, RunOnly, stopped}
+use Rattle.ps_meaning.specs.Eval.{CompileEnter, letrec_lambda, keeps_locals, part_of, compile, operation}
 
 -- whatever calls do, at each depth and in each state
 abbrev pub IsRunOnlyAt : Kernel → Place → ExprKind → Type 0
-IsRunOnlyAt k p kind = (enter : CompileEnter) (d : ℕ) (env : List (ℕ × Value)) (s : State Value) →
-    compile k enter (expr_at p kind) d env s ≡ Stops (RunOnly p) s
+IsRunOnlyAt k p kind = (enter : CompileEnter) (d : ℕ) (s : State Value) →
+    compile k enter (expr_at p kind) d s ≡ Stops (RunOnly p) (stopped s)
 
 -- an operator that is no mention of a procedure
 abbrev pub NamesNone : Kernel → Expr → Type 0
@@ -45,5 +44,5 @@ pub record RunOnlyAtItsPlace : Type 0 where
   pub call : (k : Kernel) (p : Place) (f : Expr) (es : List Expr) → NamesNone k f → IsRunOnlyAt k p (Call f es)
   pub proper_call : (k : Kernel) (p : Place) (f : Expr) (es : List Expr) → NamesNone k f → IsRunOnlyAt k p (ProperCall f es)
   -- a primitive for run time alone, once it has its operands, whatever they are
-  pub primitive : (k : Kernel) (p : Place) (q : PrimName) (vs : List Value) (s : State Value) → (row first_order q).stages ≡ AtRunOnly →
-      operation k Compile first_order compile_locals p (Named q) vs s ≡ Stops (RunOnly p) s
+  pub primitive : (k : Kernel) (p : Place) (q : PrimName) (vs : List Value) (s : State Value) →
+      (row first_order k.kinds q).stages ≡ AtRunOnly → operation k Compile first_order p q vs s ≡ Stops (RunOnly p) (stopped s)

@@ -1,12 +1,13 @@
 -- What the top-level forms of a kernel come to, and what its program does in a world (R5RS 5.1 and 5.2 in outline; the
 -- bounds are this project's own).
-use Rattle.std.specs.Prelude.{ℕ, ℤ, suc, nat_le, ◌-◌, List, [], ◌∷◌, length, map, replicate, Option, Some, None, if◌then◌else◌, slice_get}
+use Rattle.std.specs.Prelude.{ℕ, ℤ, suc, nat_le, ◌-◌, List, [], ◌∷◌, length, replicate, Option, Some, None, if◌then◌else◌, slice_get}
 use Rattle.std.specs.Prelude.{slice_set}
 use Rattle.std.specs.Option.{option_map}
 use Rattle.ps_base.specs.declared.faults.Place.{Place}
 use Rattle.byte_store.specs.declared.pointer.Value.{Value}
-use Rattle.byte_store.specs.Blocks.{Memory, Block, Bytes, Cells, Freed}
-use Rattle.byte_store.specs.Outcome.{Outcome, Outcomes, End, Returned, StoppedAtCells, Wrong}
+use Rattle.byte_store.specs.Blocks.{Memory}
+use Rattle.byte_store.specs.Mapping.{map_memory}
+use Rattle.byte_store.specs.Outcome.{Outcomes, StoppedAtCells}
 use Rattle.byte_store.specs.Worlds.{Surroundings}
 use Rattle.ps_kernel.specs.declared.expr.Expr.{Expr}
 use Rattle.ps_kernel.specs.declared.kernel.Kernel.{Kernel}
@@ -15,11 +16,14 @@ use Rattle.ps_kernel.specs.declared.kernel.Definition.{Definition}
 use Rattle.ps_kernel.specs.declared.kernel.Form.{Form}
 use Rattle.ps_kernel.specs.declared.kernel.Form.TheVariants.{Define, Do}
 use Rattle.ps_prims.specs.Sorts.{and_seen, as_integer}
+use Rattle.ps_prims.specs.Cells.{cells_in}
 use Rattle.ps_meaning.specs.Values.{RunValue, Plain, Procedure, run_values}
 use Rattle.ps_meaning.specs.Literals.{lay_all, numbered}
-use Rattle.ps_meaning.specs.Run.{State, Step, Goes, Stops, Run, Halt, Ends, RunOnly, ◌>>=◌, ◌>>◌, pure, known, get_globals, put_globals}
-use Rattle.ps_meaning.specs.Run.{cells_in}
-use Rattle.ps_meaning.specs.Eval.{lambda_in, procedure_of, defined_in, CompileEnter, compile, compile_enters, run_enters}
+use Rattle.ps_runs.specs.Runs.{State, Step, Goes, Stops, Run, Halt, Ends, ◌>>=◌, ◌>>◌, pure}
+use Rattle.ps_runs.specs.Effects.{get_globals, put_globals, global}
+use Rattle.ps_runs.specs.Ends.{outcome}
+use Rattle.ps_kernel.specs.Texts.{lambda_in, procedure_of}
+use Rattle.ps_meaning.specs.Eval.{CompileEnter, compile, compile_enters, run_enters}
 
 -- ---- compile time
 
@@ -32,13 +36,13 @@ pub data TopEnd : Type 0 where
 abbrev pub define : Kernel → CompileEnter → ℕ → Expr → Option ℕ → Run Value (Unit {0})
 define k enter g e (Some l) = pure tt
 define k enter g e None = do
-  v ← compile k enter e 0 []
+  v ← compile k enter e 0
   globals ← get_globals
   put_globals (slice_set globals g (Some v))
 
 abbrev pub form : Kernel → CompileEnter → Form → Run Value (Unit {0})
-form k enter (Define g e) = define k enter g e (lambda_in k e)
-form k enter (Do e) = compile k enter e 0 [] >> pure tt
+form k enter (Define g e) = define k enter g e (lambda_in e)
+form k enter (Do e) = compile k enter e 0 >> pure tt
 
 abbrev pub all_forms : Kernel → CompileEnter → List Form → Run Value (Unit {0})
 all_forms k enter [] = pure tt
@@ -54,6 +58,7 @@ top_start k budget cells = record {
   cells = Some cells;
   memory = first_memory k;
   globals = replicate (length k.definitions) None;
+  locals = [];
   world = record { input = []; grants = [] };
   events = [];
   deepest = 0;
@@ -82,14 +87,15 @@ pub record Program : Type 0 where
   pub globals : List (Option Value)
   pub memory : Memory Value
 
--- the same memory at run time, where cells may come to hold procedures
-abbrev pub run_block : Block Value → Block RunValue
-run_block (Bytes bytes) = Bytes bytes
-run_block (Cells cells) = Cells (map (option_map Plain) cells)
-run_block (Freed n) = Freed n
+-- what a run at run time begins from
+pub record Begun : Type 0 where
+  pub kernel : Kernel
+  pub globals : List (Option RunValue)
+  pub memory : Memory RunValue
 
+-- the same memory at run time, where cells may come to hold procedures
 abbrev pub run_memory : Memory Value → Memory RunValue
-run_memory m = record { fixed = map (λ (e : ℕ × Block Value). (e.0, run_block e.1)) m.fixed; made = map run_block m.made }
+run_memory = map_memory Plain
 
 -- a procedure definition has the procedure of its lambda, which keeps nothing
 abbrev pub run_global : Option ℕ → Option Value → Option RunValue
@@ -100,12 +106,16 @@ abbrev pub run_globals : Kernel → ℕ → List (Option Value) → List (Option
 run_globals k g [] = []
 run_globals k g (v ∷ vs) = run_global (procedure_of k g) v ∷ run_globals k (suc g) vs
 
-abbrev pub run_start : Program → Surroundings → ℕ → Option ℕ → State RunValue
-run_start p w calls cells = record {
+abbrev pub begun_of : Program → Begun
+begun_of p = record { kernel = p.kernel; globals = run_globals p.kernel 0 p.globals; memory = run_memory p.memory }
+
+abbrev pub run_start : Begun → Surroundings → ℕ → Option ℕ → State RunValue
+run_start b w calls cells = record {
   calls = calls;
   cells = cells;
-  memory = run_memory p.memory;
-  globals = run_globals p.kernel 0 p.globals;
+  memory = b.memory;
+  globals = b.globals;
+  locals = [];
   world = w;
   events = [];
   deepest = 0;
@@ -132,27 +142,21 @@ main_place k = procedure_place k (procedure_of k k.main) (definition_place (slic
 
 -- `main` is called without operands at depth 0, where n procedures may be entered
 abbrev pub call_main : Kernel → ℕ → Run RunValue RunValue
-call_main k n = get_globals >>=
-    (λ globals. known (main_place k) (defined_in k.main globals) >>= (λ v. run_enters k n 0 (main_place k) v []))
+call_main k n = global (main_place k) k.main >>= (λ v. run_enters k n 0 (main_place k) v [])
 
--- an integer is the result of the program; any other value of `main` is Wrong
-abbrev pub result : Place → Option ℤ → End
-result at None = Wrong at
-result at (Some i) = Returned i
+-- the integer that a value is
+abbrev pub integer_of : RunValue → Option ℤ
+integer_of v = and_seen run_values (run_values.seen v) as_integer
 
-abbrev pub end_of : Halt → End
-end_of (Ends e) = e
-end_of (RunOnly at) = Wrong at
+-- The run of what was begun in a world, for each number of procedures that may be entered, `main` included; so many cells may
+-- be made, or any number.
+abbrev pub Runs : Begun → Surroundings → Option ℕ → Outcomes
+Runs b w cells n = outcome integer_of (main_place b.kernel) (call_main b.kernel n (run_start b w n cells))
 
-abbrev pub outcome : Place → Step RunValue RunValue → Outcome
-outcome at (Goes v s) =
-    record { events = s.events; depth = s.deepest; end = result at (and_seen run_values (run_values.seen v) as_integer) }
-outcome at (Stops h s) = record { events = s.events; depth = s.deepest; end = end_of h }
-
--- The run of a program in a world, for each number of procedures that may be entered, `main` included.
+-- the run of a program
 abbrev pub Source : Program → Surroundings → Outcomes
-Source p w n = outcome (main_place p.kernel) (call_main p.kernel n (run_start p w n None))
+Source p w = Runs (begun_of p) w None
 
 -- the same, where so many cells may be made
 abbrev pub Traced : Program → Surroundings → ℕ → Outcomes
-Traced p w cells n = outcome (main_place p.kernel) (call_main p.kernel n (run_start p w n (Some cells)))
+Traced p w cells = Runs (begun_of p) w (Some cells)

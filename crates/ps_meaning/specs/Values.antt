@@ -1,13 +1,15 @@
--- The values of locals at both stages, and procedures as values (R5RS 4.1.4).
+-- The values of a program, and procedures as values (R5RS 4.1.4).
 --
 -- At compile time a value is one of first order. At run time it may also be a procedure: a lambda with the values of the
 -- locals that it keeps.
-use Rattle.std.specs.Prelude.{ℕ, pos, List, [], ◌∷◌, nat_eq, Option, Some, None, if◌then◌else◌}
+use Rattle.std.specs.Prelude.{ℕ, pos, List, [], ◌∷◌, map, Option, Some, None}
 use Rattle.byte_store.specs.declared.pointer.Value.{Value}
 use Rattle.byte_store.specs.declared.pointer.Word.{Word}
 use Rattle.byte_store.specs.declared.pointer.Word.TheVariants.{Number}
 use Rattle.byte_store.specs.Words.{word_of}
 use Rattle.ps_prims.specs.Sorts.{Values}
+use Rattle.ps_runs.specs.Runs.{Env}
+use Rattle.ps_runs.specs.Locals.{found}
 pub use Rattle.ps_meaning.specs.declared.values.RunValue.{RunValue, out-RunValue}
 pub use Rattle.ps_meaning.specs.declared.values.RunValue.TheVariants.{Plain, Procedure}
 use Rattle.ps_meaning.specs.declared.values.RunValue.TheOpen.{RunValue-F}
@@ -40,41 +42,23 @@ closure_of (RunValue-F.Procedure l env) = Some (record { lambda = l; kept = env 
 abbrev pub as_procedure : RunValue → Option Closure
 as_procedure v = closure_of (out-RunValue v)
 
--- ---- the values of locals: where a local stands twice, the first counts
-
--- how locals get values, and how their values are found
-pub record Locals (V E : Type 0) : Type 0 where
-  pub find : ℕ → E → Option V
-  pub bind : ℕ → V → E → E
+-- ---- the locals that a procedure keeps
 
 abbrev pub bound : ℕ → RunValue → Binding
 bound x v = roll-Binding (record { local = x; value = v })
 
-abbrev pub find_in : ℕ → List Binding → Option RunValue
-find_in x [] = None
-find_in x (b ∷ env) = if nat_eq x (out-Binding b).local then Some (out-Binding b).value else find_in x env
+abbrev pub pair_of : Binding → ℕ × RunValue
+pair_of b = ((out-Binding b).local, (out-Binding b).value)
 
-abbrev pub run_locals : Locals RunValue (List Binding)
-run_locals = record { find = find_in; bind = λ x v env. bound x v ∷ env }
-
-abbrev pub find_pair : ℕ → List (ℕ × Value) → Option Value
-find_pair x [] = None
-find_pair x (b ∷ env) = if nat_eq x b.0 then Some b.1 else find_pair x env
-
-abbrev pub compile_locals : Locals Value (List (ℕ × Value))
-compile_locals = record { find = find_pair; bind = λ x v env. (x, v) ∷ env }
-
--- these locals, in order, with these values
-abbrev pub bind_all : {V E : Type 0} → Locals V E → List ℕ → List V → E → E
-bind_all locals [] vs env = env
-bind_all locals (x ∷ xs) [] env = env
-bind_all locals (x ∷ xs) (v ∷ vs) env = locals.bind x v (bind_all locals xs vs env)
+-- the locals that a procedure keeps, in scope again
+abbrev pub pairs_of : List Binding → Env RunValue
+pairs_of bs = map pair_of bs
 
 abbrev pub with_known : ℕ → Option RunValue → List Binding → List Binding
-with_known x None env = env
-with_known x (Some v) env = bound x v ∷ env
+with_known x None bs = bs
+with_known x (Some v) bs = bound x v ∷ bs
 
 -- the values of these locals alone
-abbrev pub only : List ℕ → List Binding → List Binding
+abbrev pub only : List ℕ → Env RunValue → List Binding
 only [] env = []
-only (x ∷ xs) env = with_known x (find_in x env) (only xs env)
+only (x ∷ xs) env = with_known x (found x env) (only xs env)

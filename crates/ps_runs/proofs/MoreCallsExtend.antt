@@ -1,5 +1,5 @@
 -- What a part of a run does with more calls left.
--- For: `larger_bound_keeps`, `larger_bound_keeps_traced`, `larger_budget_keeps`, `cells_only_stop` and `more_cells_keep_forms`
+-- For: the laws of bounds and budgets of each meaning that is said in the words of runs
 use Rattle.std.proofs.Common.{◌≡◌, ℕ, zero, suc, ◌+◌, List, Option, Some, None, refl, sym, ap, subst, arith}
 use Rattle.std.specs.Prelude.{Bool, true, false, nat_le, ◌-◌, if◌then◌else◌}
 use Rattle.ps_base.specs.declared.faults.Place.{Place}
@@ -8,8 +8,10 @@ use Rattle.byte_store.specs.Outcome.{Returned, Running, Undefined, Stuck, Wrong,
 use Rattle.byte_store.proofs.FrontsCompose.{begins_self, begins_trans}
 use Rattle.ps_prims.specs.Rows.{Done, Scene, Performed, Answers}
 use Rattle.ps_prims.specs.Rows as rows
-use Rattle.ps_meaning.specs.Run.{State, Halt, Ends, RunOnly, Step, Goes, Stops, Run, and_then, ◌>>=◌, pure, stop, take_one, take_call, at_depth, get_globals, put_globals, cells_between, pay, take_cells, leave, count_and_leave, came, scene_of}
-use Rattle.ps_meaning.proofs.BothStagesKeep.{Keeps}
+use Rattle.ps_runs.specs.Runs.{Env, State, Halt, Ends, RunOnly, Step, Goes, Stops, Run, and_then, ◌>>=◌, pure, stop, stopped}
+use Rattle.ps_runs.specs.Locals.{get_locals, put_locals}
+use Rattle.ps_runs.specs.Effects.{take_one, take_call, at_depth, get_globals, put_globals, pay, take_cells, get_scene, leave, came, performing}
+use Rattle.ps_runs.proofs.WordsKeep.{Keeps, KeepsLocals}
 
 module _ {V : Type 0} where
   abbrev pub events_of : {A : Type 0} → Step V A → List Event
@@ -38,17 +40,17 @@ module _ {V : Type 0} where
   pure_longer : {A : Type 0} (d : ℕ) (a : A) → Longer d A (pure a) (pure a)
   pure_longer d a = record { extends = λ s. refl; grows = λ s. begins_self s.events }
 
-  stopped : (A : Type 0) (d : ℕ) (h : Halt) (s : State V) → Extends {A = A} d (Stops h s) (Stops h (more d s))
-  stopped A d (Ends Running) s = begins_self s.events
-  stopped A d (Ends (Returned i)) s = refl
-  stopped A d (Ends (Undefined op at)) s = refl
-  stopped A d (Ends (Stuck op)) s = refl
-  stopped A d (Ends (Wrong at)) s = refl
-  stopped A d (Ends StoppedAtCells) s = refl
-  stopped A d (RunOnly at) s = refl
+  stop_extends : (A : Type 0) (d : ℕ) (h : Halt) (s : State V) → Extends {A = A} d (Stops h (stopped s)) (Stops h (stopped (more d s)))
+  stop_extends A d (Ends Running) s = begins_self s.events
+  stop_extends A d (Ends (Returned i)) s = refl
+  stop_extends A d (Ends (Undefined op at)) s = refl
+  stop_extends A d (Ends (Stuck op)) s = refl
+  stop_extends A d (Ends (Wrong at)) s = refl
+  stop_extends A d (Ends StoppedAtCells) s = refl
+  stop_extends A d (RunOnly at) s = refl
 
   pub stop_longer : {A : Type 0} (d : ℕ) (h : Halt) → Longer d A (stop h) (stop h)
-  stop_longer {A} d h = record { extends = λ s. stopped A d h s; grows = λ s. begins_self s.events }
+  stop_longer {A} d h = record { extends = λ s. stop_extends A d h s; grows = λ s. begins_self s.events }
 
   -- whatever only adds events is longer than what is Running at once
   pub running_longer : {A : Type 0} (d e : ℕ) {p q : Run V A} → Longer e A p q → Longer d A (stop (Ends Running)) q
@@ -99,9 +101,6 @@ module _ {V : Type 0} where
 
   -- ---- primitives
 
-  leave_grows : (e : Done V V) (s : State V) → Begins s.events (events_of (leave e s))
-  leave_grows e s = record { rest = e.events; is = refl }
-
   pays_grow : (n : ℕ) (left : Option ℕ) (s : State V) → Begins s.events (events_of (pay n left s))
   pays_grow n None s = begins_self s.events
   pays_grow n (Some left) s = one (nat_le n left)
@@ -118,30 +117,35 @@ module _ {V : Type 0} where
       one true = refl
       one false = refl
 
-  counts : (e : Done V V) (d : ℕ) → Longer d V (count_and_leave e) (count_and_leave e)
-  counts e d = then_longer d {p = λ s. take_cells (cells_between s.memory e.memory) s} {q = λ s. take_cells (cells_between s.memory e.memory) s} {f = λ u. leave e} {g = λ u. leave e}
-      (record { extends = λ s. pays_extend d (cells_between s.memory e.memory) s.cells s; grows = λ s. pays_grow (cells_between s.memory e.memory) s.cells s })
-      (λ u. record { extends = λ s. refl; grows = leave_grows e })
+  cells_longer : (d n : ℕ) → Longer d (Unit {0}) (take_cells n) (take_cells n)
+  cells_longer d n = record { extends = λ s. pays_extend d n s.cells s; grows = λ s. pays_grow n s.cells s }
 
-  came_extends : (d : ℕ) (at : Place) (r : Performed V) (s : State V) → Extends d (came at r s) (came at r (more d s))
-  came_extends d at (Answers e) s = (counts e d).extends s
-  came_extends d at (rows.Undefined op) s = refl
-  came_extends d at rows.Wrong s = refl
+  scene_longer : (d : ℕ) → Longer d (Scene V) get_scene get_scene
+  scene_longer d = record { extends = λ s. refl; grows = λ s. begins_self s.events }
 
-  came_grows : (at : Place) (r : Performed V) (s : State V) → Begins s.events (events_of (came at r s))
-  came_grows at (Answers e) s = (counts e 0).grows s
-  came_grows at (rows.Undefined op) s = begins_self s.events
-  came_grows at rows.Wrong s = begins_self s.events
+  came_longer : (d : ℕ) (at : Place) (r : Performed V) → Longer d V (came at r) (came at r)
+  came_longer d at (Answers e) = record { extends = λ s. refl; grows = λ s. record { rest = e.events; is = refl } }
+  came_longer d at (rows.Undefined op) = stop_longer d (Ends (Undefined op at))
+  came_longer d at rows.Wrong = stop_longer d (Ends (Wrong at))
 
-  comes_longer : (d : ℕ) (at : Place) (f : Scene V → Performed V) → Longer d V (λ s. came at (f (scene_of s)) s) (λ s. came at (f (scene_of s)) s)
-  comes_longer d at f = record { extends = λ s. came_extends d at (f (scene_of s)) s; grows = λ s. came_grows at (f (scene_of s)) s }
+  performs_longer : (d : ℕ) (at : Place) (asks : Scene V → ℕ) (act : Scene V → Performed V) → Longer d V (performing at asks act) (performing at asks act)
+  performs_longer d at asks act = then_longer d (scene_longer d) (λ scene. then_longer d (cells_longer d (asks scene)) (λ u. came_longer d at (act scene)))
+
+  locals_longer : (d : ℕ) → Longer d (Env V) get_locals get_locals
+  locals_longer d = record { extends = λ s. refl; grows = λ s. begins_self s.events }
+
+  puts_locals_longer : (d : ℕ) (env : Env V) → Longer d (Unit {0}) (put_locals env) (put_locals env)
+  puts_locals_longer d env = record { extends = λ s. refl; grows = λ s. begins_self s.events }
 
   pub longer_keeps : (d : ℕ) → Keeps V (Longer d)
   longer_keeps d = record {
     pures = λ a. pure_longer d a;
     stops = λ h. stop_longer d h;
-    gets = gets_longer d;
-    puts = λ globals. puts_longer d globals;
-    comes = λ at f. comes_longer d at f;
+    globals = gets_longer d;
+    puts_globals = λ globals. puts_longer d globals;
+    performs = λ at asks act. performs_longer d at asks act;
     thens = λ l h. then_longer d l h;
   }
+
+  pub longer_keeps_locals : (d : ℕ) → KeepsLocals V (Longer d)
+  longer_keeps_locals d = record { words = longer_keeps d; locals = locals_longer d; puts_locals = puts_locals_longer d }

@@ -1,13 +1,15 @@
 -- Parts of a run that do the same wherever few enough procedures may still be entered.
--- For: `calls_enter_procedures` and `compile_calls_enter`
+-- For: the laws that a bound on nesting is never met before the calls that are left
 use Rattle.std.proofs.Common.{◌≡◌, ℕ, zero, suc, ◌<◌, ◌≤◌, List, Option, Some, None, refl, ap, ◌∙◌, arith}
 use Rattle.std.specs.Prelude.{Bool, true, false, nat_le, ◌-◌, if◌then◌else◌}
 use Rattle.ps_base.specs.declared.faults.Place.{Place}
-use Rattle.byte_store.specs.Outcome.{StoppedAtCells}
+use Rattle.byte_store.specs.Outcome.{Undefined, Wrong, StoppedAtCells}
 use Rattle.ps_prims.specs.Rows.{Done, Scene, Performed, Answers}
 use Rattle.ps_prims.specs.Rows as rows
-use Rattle.ps_meaning.specs.Run.{State, Halt, Ends, Step, Goes, Stops, Run, and_then, ◌>>=◌, pure, stop, take_one, take_call, at_depth, get_globals, put_globals, cells_between, pay, leave, came, scene_of}
-use Rattle.ps_meaning.proofs.BothStagesKeep.{Keeps}
+use Rattle.ps_runs.specs.Runs.{Env, State, Halt, Ends, Step, Goes, Stops, Run, and_then, ◌>>=◌, pure, stop}
+use Rattle.ps_runs.specs.Locals.{get_locals, put_locals}
+use Rattle.ps_runs.specs.Effects.{take_one, take_call, at_depth, get_globals, put_globals, pay, take_cells, get_scene, leave, came, performing}
+use Rattle.ps_runs.proofs.WordsKeep.{Keeps, KeepsLocals}
 
 module _ {V : Type 0} where
   -- where a part goes on, fewer than k procedures may still be entered
@@ -73,21 +75,35 @@ module _ {V : Type 0} where
       one true = h
       one false = tt
 
-  came_leaves : (k : ℕ) (at : Place) (r : Performed V) (s : State V) → s.calls < k → Leaves k (came at r s)
-  came_leaves k at (Answers e) s h =
-      then_leaves k k (λ u. leave e) (λ u. leave e) (λ u. record { is = λ t few. refl; leaves = λ t few. few }) (pay (cells_between s.memory e.memory) s.cells s) (pays_leave k (cells_between s.memory e.memory) s.cells s h)
-  came_leaves k at (rows.Undefined op) s h = tt
-  came_leaves k at rows.Wrong s h = tt
+  cells_same : (k n : ℕ) → Same k k (Unit {0}) (take_cells n) (take_cells n)
+  cells_same k n = record { is = λ s few. refl; leaves = λ s few. pays_leave k n s.cells s few }
 
-  comes_same : (k : ℕ) (at : Place) (f : Scene V → Performed V) → Same k k V (λ s. came at (f (scene_of s)) s) (λ s. came at (f (scene_of s)) s)
-  comes_same k at f = record { is = λ s few. refl; leaves = λ s few. came_leaves k at (f (scene_of s)) s few }
+  scene_same : (k : ℕ) → Same k k (Scene V) get_scene get_scene
+  scene_same k = record { is = λ s few. refl; leaves = λ s few. few }
+
+  came_same : (k : ℕ) (at : Place) (r : Performed V) → Same k k V (came at r) (came at r)
+  came_same k at (Answers e) = record { is = λ s few. refl; leaves = λ s few. few }
+  came_same k at (rows.Undefined op) = stop_same k (Ends (Undefined op at))
+  came_same k at rows.Wrong = stop_same k (Ends (Wrong at))
+
+  performs_same : (k : ℕ) (at : Place) (asks : Scene V → ℕ) (act : Scene V → Performed V) → Same k k V (performing at asks act) (performing at asks act)
+  performs_same k at asks act = then_same k k k (scene_same k) (λ scene. then_same k k k (cells_same k (asks scene)) (λ u. came_same k at (act scene)))
+
+  locals_same : (k : ℕ) → Same k k (Env V) get_locals get_locals
+  locals_same k = record { is = λ s few. refl; leaves = λ s few. few }
+
+  puts_locals_same : (k : ℕ) (env : Env V) → Same k k (Unit {0}) (put_locals env) (put_locals env)
+  puts_locals_same k env = record { is = λ s few. refl; leaves = λ s few. few }
 
   pub same_keeps : (k : ℕ) → Keeps V (Same k k)
   same_keeps k = record {
     pures = λ a. pure_same k a;
     stops = λ h. stop_same k h;
-    gets = gets_same k;
-    puts = λ globals. puts_same k globals;
-    comes = λ at f. comes_same k at f;
+    globals = gets_same k;
+    puts_globals = λ globals. puts_same k globals;
+    performs = λ at asks act. performs_same k at asks act;
     thens = λ l h. then_same k k k l h;
   }
+
+  pub same_keeps_locals : (k : ℕ) → KeepsLocals V (Same k k)
+  same_keeps_locals k = record { words = same_keeps k; locals = locals_same k; puts_locals = puts_locals_same k }
