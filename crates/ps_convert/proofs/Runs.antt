@@ -13,29 +13,32 @@ use Rattle.byte_store.specs.declared.pointer.Value.TheVariants as value
 use Rattle.byte_store.specs.Outcome.{Running, Wrong, StoppedAtCells}
 use Rattle.byte_store.specs.Worlds.{Surroundings}
 use Rattle.ps_prims.specs.Sorts.{and_seen, as_integer}
+use Rattle.ps_runs.specs.Runs as kernel
+use Rattle.ps_runs.specs.Runs.{Env, State, Run, Ends, Goes, Stops, or_wrong}
+use Rattle.ps_runs.specs.Locals.{push_all, within}
+use Rattle.ps_runs.specs.Effects.{defined_in, take_call, at_depth}
+use Rattle.ps_runs.specs.Ends.{result, outcome as kernel_outcome}
 use Rattle.ps_kernel.specs.declared.expr.ExprKind.TheVariants as kinds
 use Rattle.ps_kernel.specs.declared.kernel.Kernel.{Kernel}
 use Rattle.ps_kernel.specs.declared.kernel.Lambda.{Lambda}
+use Rattle.ps_kernel.specs.Texts.{expr_at, procedure_of}
 use Rattle.ps_meaning.specs.declared.values.RunValue.{RunValue}
 use Rattle.ps_meaning.specs.declared.values.RunValue.TheVariants.{Procedure, outs-Procedure}
-use Rattle.ps_meaning.specs.Values.{Closure, closure_of, run_values, run_locals, bind_all}
-use Rattle.ps_meaning.proofs.SortsEmbed.{seen_run}
-use Rattle.ps_meaning.specs.Run as kernel
-use Rattle.ps_meaning.specs.Run.{Run, Ends, Goes, Stops, take_call, at_depth}
-use Rattle.ps_meaning.specs.Eval.{RunEnter, CompileEnter, lambda_of as lambda_with, procedure_of, defined_in, entered, run, run_entering, run_enters, compile_enters}
-use Rattle.ps_meaning.specs.Source.{Finished, Halted, all_forms, define, top_start, top_end, top_within, run_globals, main_place, procedure_place, definition_place as kernel_definition_place, call_main, result, outcome as kernel_outcome, Source}
+use Rattle.ps_meaning.specs.Values.{Closure, closure_of, run_values}
+use Rattle.ps_meaning.specs.Eval.{RunEnter, CompileEnter, lambda_of as lambda_with, entered, run, run_entering, run_enters, compile_enters}
+use Rattle.ps_meaning.specs.Source.{Finished, Halted, all_forms, define, top_start, top_end, top_within, run_globals, main_place, procedure_place, definition_place as kernel_definition_place, call_main, integer_of, Source}
 use Rattle.ps_plain.specs.Run as plain
 use Rattle.ps_plain.specs.declared.program.Procedure.{Procedure as PlainProcedure}
 use Rattle.ps_plain.specs.declared.program.Program.{Program as PlainProgram}
 use Rattle.ps_plain.specs.Forms.{has_arity}
 use Rattle.ps_plain.specs.Valid.{named_in, arities_of, IsProcedure, IsValid}
 use Rattle.ps_plain.specs.Meaning.{Enter, body, taking, entering, enters, outcome, start, main_place as plain_main_place, Source as PlainSource}
-use Rattle.ps_kernel.specs.Texts.{expr_at}
 use Rattle.ps_convert.specs.Kernels.{definition_of, body_of, numbers_from, lambda_of, forms_from, kernel_of}
 use Rattle.ps_convert.specs.Laws.{run_of, FormsDoNothing, KernelsDoTheSame}
-use Rattle.ps_convert.proofs.Steps.{int, ints, up, up_step, Does, stop_does, then_does, take_does, depth_does}
+use Rattle.ps_convert.proofs.Steps.{int, ints, up, up_step, Does, stop_does, then_does, take_does, depth_does, within_does, seen_run}
 use Rattle.ps_convert.proofs.Expressions.{body_does}
-use Rattle.ps_convert.proofs.Shapes.{found, entered_is, offset, lambda_is, lambda_here, procedure_is, defined_is}
+use Rattle.ps_convert.proofs.LambdasStandAlone.{offset}
+use Rattle.ps_convert.proofs.Shapes.{arguments_in, argument, entered_is, lambda_is, lambda_here, procedure_is, defined_is}
 
 length_mapped : {A B : Type 0} (f : A → B) (xs : List A) → length (map f xs) ≡ length xs
 length_mapped f [] = refl
@@ -47,7 +50,7 @@ module _ (structure : Name) (p : PlainProgram) where
   abbrev k : Kernel
   k = kernel_of structure p
 
-  forms_nothing : (enter : CompileEnter) (n : ℕ) (qs : List PlainProcedure) (s : kernel.State Value) → all_forms k enter (forms_from n qs) s ≡ Goes tt s
+  forms_nothing : (enter : CompileEnter) (n : ℕ) (qs : List PlainProcedure) (s : State Value) → all_forms k enter (forms_from n qs) s ≡ Goes tt s
   forms_nothing enter n [] s = refl
   forms_nothing enter n (q ∷ qs) s =
       ap (λ o. kernel.and_then (define k enter n (expr_at q.place (kinds.Lambda n)) o s) (λ u. all_forms k enter (forms_from (suc n) qs))) (lambda_here structure p q.place n) ∙ forms_nothing enter (suc n) qs s
@@ -92,62 +95,73 @@ module _ (structure : Name) (p : PlainProgram) (is_valid : IsValid p) where
   abbrev globals : List (Option RunValue)
   globals = run_globals K 0 (replicate (length p.procedures) None)
 
-  -- entering procedures in the two runs is the same
+  -- entering procedures in the two runs is the same, whatever locals are in scope
   record Enters (f : Enter) (g : RunEnter) : Type 0 where
-    by : (at : Place) (d n : ℕ) (vs : List ℤ) → Does globals int (f at d n vs) (g d at (Procedure n []) (ints vs))
+    by : (env : Env RunValue) (at : Place) (d n : ℕ) (vs : List ℤ) → Does globals env int (f at d n vs) (g d at (Procedure n []) (ints vs))
 
   defined : (f n : ℕ) → has_arity n (slice_get (arities_of p) f) ≡ true → defined_in f globals ≡ Some (Procedure f [])
   defined f n is = defined_is structure p f (let low = arity_low (arities_of p) f n is in let same = length_mapped (λ (q : PlainProcedure). q.parameters) p.procedures in omega arith)
 
-  module _ (f : Enter) (g : RunEnter) (enter : Enters f g) (at : Place) (d n : ℕ) (vs : List ℤ) where
+  module _ (f : Enter) (g : RunEnter) (enter : Enters f g) (env : Env RunValue) (at : Place) (d n : ℕ) (vs : List ℤ) where
     abbrev c : Closure
     c = record { lambda = n; kept = [] }
 
     abbrev off : ℕ
-    off = offset structure p 0 p.procedures n
+    off = offset 0 p.procedures n
 
-    body_done : (q : PlainProcedure) → IsTaken (length vs) (slice_get p.procedures n) q
-        → Does globals int (body q (record { enter = f; depth = d; arguments = vs })) (run K g (body_of off q) d (entered K c (lambda_of off q) (ints vs)))
+    -- the body of a procedure, where its parameters are the locals
+    abbrev plain_body : PlainProcedure → plain.Run ℤ
+    plain_body q = body q (record { enter = f; depth = d; arguments = vs })
+
+    abbrev kernel_body : Lambda → Run RunValue RunValue
+    kernel_body m = within (entered K c m (ints vs)) (run K g m.body d)
+
+    body_done : (q : PlainProcedure) → IsTaken (length vs) (slice_get p.procedures n) q → Does globals env int (plain_body q) (kernel_body (lambda_of off q))
     body_done q is =
         let procedure = member (IsProcedure (arities_of p)) p.procedures n q is_valid.procedures is.there in
-        let environment : entered K c (lambda_of off q) (ints vs) ≡ bind_all run_locals (numbers_from off (length vs)) (ints vs) [] = entered_is structure p n (lambda_of off q) (ints vs) ∙ ap (λ m. bind_all run_locals (numbers_from off m) (ints vs) []) is.parameters in
-        subst (λ env. Does globals int (body q (record { enter = f; depth = d; arguments = vs })) (run K g (body_of off q) d env)) (sym environment)
-        (body_does K globals (named_in (arities_of p) q) f g (λ place depth m us. enter.by place depth m us) defined d vs off (bind_all run_locals (numbers_from off (length vs)) (ints vs) []) (found structure p off vs) q procedure.writes procedure.value)
+        let locals : entered K c (lambda_of off q) (ints vs) ≡ arguments_in off vs [] = entered_is structure p n (lambda_of off q) (ints vs) ∙ ap (λ m. push_all (numbers_from off m) (ints vs) []) is.parameters in
+        subst (λ inner. Does globals env int (plain_body q) (within inner (run K g (body_of off q) d))) (sym locals)
+        (within_does globals env (arguments_in off vs []) int (plain_body q) (run K g (body_of off q) d)
+        (body_does K globals (arguments_in off vs []) (named_in (arities_of p) q) f g (λ place depth m us. enter.by (arguments_in off vs []) place depth m us) defined d vs off (argument off vs) q procedure.writes procedure.value))
 
     abbrev plain_rest : PlainProcedure → plain.Run ℤ
-    plain_rest q = λ s. plain.and_then (plain.take_call s) (λ u. λ t. plain.and_then (plain.at_depth d t) (λ w. body q (record { enter = f; depth = d; arguments = vs })))
+    plain_rest q = λ s. plain.and_then (plain.take_call s) (λ u. λ t. plain.and_then (plain.at_depth d t) (λ w. plain_body q))
 
     abbrev kernel_rest : Lambda → Run RunValue RunValue
-    kernel_rest m = λ s. kernel.and_then (take_call s) (λ u. λ t. kernel.and_then (at_depth d t) (λ w. run K g m.body d (entered K c m (ints vs))))
+    kernel_rest m = λ s. kernel.and_then (take_call s) (λ u. λ t. kernel.and_then (at_depth d t) (λ w. kernel_body m))
 
-    rest_done : (q : PlainProcedure) → IsTaken (length vs) (slice_get p.procedures n) q → Does globals int (plain_rest q) (kernel_rest (lambda_of off q))
+    rest_done : (q : PlainProcedure) → IsTaken (length vs) (slice_get p.procedures n) q → Does globals env int (plain_rest q) (kernel_rest (lambda_of off q))
     rest_done q is =
-        then_does globals (λ (u : Unit {0}). u) int (λ u. λ t. plain.and_then (plain.at_depth d t) (λ w. body q (record { enter = f; depth = d; arguments = vs }))) (λ u. λ t. kernel.and_then (at_depth d t) (λ w. run K g (body_of off q) d (entered K c (lambda_of off q) (ints vs)))) (take_does globals)
-        (λ u. then_does globals (λ (w : Unit {0}). w) int (λ w. body q (record { enter = f; depth = d; arguments = vs })) (λ w. run K g (body_of off q) d (entered K c (lambda_of off q) (ints vs))) (depth_does globals d) (λ w. body_done q is))
+        then_does globals env (λ (u : Unit {0}). u) int (λ u. λ t. plain.and_then (plain.at_depth d t) (λ w. plain_body q)) (λ u. λ t. kernel.and_then (at_depth d t) (λ w. kernel_body (lambda_of off q))) (take_does globals env)
+        (λ u. then_does globals env (λ (w : Unit {0}). w) int (λ w. plain_body q) (λ w. kernel_body (lambda_of off q)) (depth_does globals env d) (λ w. body_done q is))
 
     found_done : (o : Option PlainProcedure) → taking (length vs) (slice_get p.procedures n) ≡ o
-        → Does globals int (λ s. plain.and_then (plain.known (Wrong at) o s) plain_rest) (λ s. kernel.and_then (kernel.known at (option_map (lambda_of off) o) s) kernel_rest)
+        → Does globals env int (λ s. plain.and_then (plain.known (Wrong at) o s) plain_rest) (λ s. kernel.and_then (or_wrong at (option_map (lambda_of off) o) s) kernel_rest)
     found_done None is = record { is = λ s. refl }
     found_done (Some q) is = record { is = λ s. (rest_done q (taken (length vs) (slice_get p.procedures n) q is)).is s }
 
     lambda_found : lambda_with K (length (ints vs)) n ≡ option_map (lambda_of off) (taking (length vs) (slice_get p.procedures n))
     lambda_found = ap (λ m. lambda_with K m n) (length_mapped int vs) ∙ lambda_is structure p (length vs) n
 
-    entering_done : Does globals int (entering p f at d n vs) (run_entering K g d at (Procedure n []) (ints vs))
+    -- what is done where a procedure is known
+    abbrev kernel_known : Closure → Run RunValue RunValue
+    kernel_known e = λ t. kernel.and_then (or_wrong at (lambda_with K (length (ints vs)) e.lambda) t) (λ (m : Lambda). λ r. kernel.and_then (take_call r) (λ u. λ q. kernel.and_then (at_depth d q) (λ w. within (entered K e m (ints vs)) (run K g m.body d))))
+
+    entering_done : Does globals env int (entering p f at d n vs) (run_entering K g d at (Procedure n []) (ints vs))
     entering_done = record {
       is = λ s.
-          ap (λ o. kernel.and_then (kernel.known at o (up globals s)) (λ (e : Closure). λ t. kernel.and_then (kernel.known at (lambda_with K (length (ints vs)) e.lambda) t) (λ (m : Lambda). λ r. kernel.and_then (take_call r) (λ u. λ q. kernel.and_then (at_depth d q) (λ w. run K g m.body d (entered K e m (ints vs))))))) (ap closure_of (outs-Procedure n []))
-          ∙ ap (λ o. kernel.and_then (kernel.known at o (up globals s)) kernel_rest) lambda_found
+          ap (λ o. kernel.and_then (or_wrong at o (up globals env s)) kernel_known) (ap closure_of (outs-Procedure n []))
+          ∙ ap (λ o. kernel.and_then (or_wrong at o (up globals env s)) kernel_rest) lambda_found
           ∙ (found_done (taking (length vs) (slice_get p.procedures n)) refl).is s;
     }
 
   enters_done : (n : ℕ) → Enters (enters p n) (run_enters K n)
-  enters_done zero = record { by = λ at d n vs. entering_done (λ at d f vs. plain.stop Running) (λ d at v vs. kernel.stop (Ends Running)) (record { by = λ at d n vs. stop_does globals int Running }) at d n vs }
-  enters_done (suc m) = record { by = λ at d n vs. entering_done (enters p m) (run_enters K m) (enters_done m) at d n vs }
+  enters_done zero = record { by = λ env at d n vs. entering_done (λ at d f vs. plain.stop Running) (λ d at v vs. kernel.stop (Ends Running)) (record { by = λ env at d n vs. stop_does globals env int Running }) env at d n vs }
+  enters_done (suc m) = record { by = λ env at d n vs. entering_done (enters p m) (run_enters K m) (enters_done m) env at d n vs }
 
   -- ---- outcomes
 
-  outcome_same : (at : Place) (r : plain.Step ℤ) → kernel_outcome at (up_step globals int r) ≡ outcome r
+  outcome_same : (at : Place) (r : plain.Step ℤ) → kernel_outcome integer_of at (up_step globals [] int r) ≡ outcome r
   outcome_same at (plain.Goes i s) = ap (λ o. record { events = s.events; depth = s.deepest; end = result at (and_seen run_values o as_integer) }) (seen_run (value.Integer i))
   outcome_same at (plain.Stops e s) = refl
 
@@ -159,14 +173,14 @@ module _ (structure : Name) (p : PlainProgram) (is_valid : IsValid p) where
   place_same : main_place K ≡ plain_main_place p
   place_same = places p.procedures is_valid.main (procedure_of K 0) (procedure_is structure p 0 (let low = arity_low (arities_of p) 0 0 (ap (has_arity 0) is_valid.main) in let same = length_mapped (λ (q : PlainProcedure). q.parameters) p.procedures in omega arith))
 
-  main_done : (w : Surroundings) (n : ℕ) → call_main K n (up globals (start n w)) ≡ up_step globals int (enters p n (plain_main_place p) 0 0 [] (start n w))
+  main_done : (w : Surroundings) (n : ℕ) → call_main K n (up globals [] (start n w)) ≡ up_step globals [] int (enters p n (plain_main_place p) 0 0 [] (start n w))
   main_done w n =
-      ap (λ o. kernel.and_then (kernel.known (main_place K) o (up globals (start n w))) (λ v. run_enters K n 0 (main_place K) v [])) (defined 0 0 (ap (has_arity 0) is_valid.main))
-      ∙ ap (λ at. run_enters K n 0 at (Procedure 0 []) [] (up globals (start n w))) place_same
-      ∙ ((enters_done n).by (plain_main_place p) 0 0 []).is (start n w)
+      ap (λ o. kernel.and_then (or_wrong (main_place K) o (up globals [] (start n w))) (λ v. run_enters K n 0 (main_place K) v [])) (defined 0 0 (ap (has_arity 0) is_valid.main))
+      ∙ ap (λ at. run_enters K n 0 at (Procedure 0 []) [] (up globals [] (start n w))) place_same
+      ∙ ((enters_done n).by [] (plain_main_place p) 0 0 []).is (start n w)
 
   runs_same : (w : Surroundings) (n : ℕ) → Source (run_of structure p) w n ≡ PlainSource p w n
-  runs_same w n = ap (kernel_outcome (main_place K)) (main_done w n) ∙ outcome_same (main_place K) (enters p n (plain_main_place p) 0 0 [] (start n w))
+  runs_same w n = ap (kernel_outcome integer_of (main_place K)) (main_done w n) ∙ outcome_same (main_place K) (enters p n (plain_main_place p) 0 0 [] (start n w))
 
 pub kernels_do_the_same : KernelsDoTheSame
 kernels_do_the_same structure p w is_valid n = runs_same structure p is_valid w n

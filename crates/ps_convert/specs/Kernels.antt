@@ -12,7 +12,6 @@ use Rattle.ps_kernel.specs.declared.expr.Expr.{Expr}
 use Rattle.ps_kernel.specs.declared.expr.ExprKind.TheVariants as kinds
 use Rattle.ps_kernel.specs.declared.expr.Constant.TheVariants as constants
 use Rattle.ps_kernel.specs.Texts.{expr_at}
-use Rattle.ps_kernel.specs.declared.expr.Operation.TheVariants.{Named}
 use Rattle.ps_kernel.specs.declared.kernel.Lambda.{Lambda}
 use Rattle.ps_kernel.specs.declared.kernel.Definition.{Definition}
 use Rattle.ps_kernel.specs.declared.kernel.Form.{Form}
@@ -38,7 +37,7 @@ comparison comparisons.Equal = prims.Equal
 
 -- a primitive and its operands
 abbrev pub primitive : Place → PrimName → List Expr → Expr
-primitive p name es = expr_at p (kinds.Primitive (Named name) es)
+primitive p name es = expr_at p (kinds.Primitive name es)
 
 -- one form, where its parts are converted, in a procedure whose first parameter is this local
 abbrev pub node : ℕ → Expr-F Expr → Expr

@@ -1,39 +1,38 @@
 //! The kernel of a program.
 
 ghost use Rattle.std.specs.Prelude.{◌≡◌, ◌+◌, ◌<◌, ◌^◌, ◌++◌, ◌∷◌, [], true, take, length, map, IfOk};
-ghost use Rattle.ps_kernel.specs.declared.expr.Operation.TheVariants.{Named};
 ghost use Rattle.ps_plain.specs.Size.{program_size};
 ghost use Rattle.ps_plain.specs.Valid.{IsValid, all_true};
 ghost use Rattle.ps_convert.specs.Inside.{within, write_within, procedure_within, parameters_in};
 ghost use Rattle.ps_kernel.specs.Texts.{expr_at};
 ghost use Rattle.ps_convert.specs.Kernels.{operator, comparison, primitive, expr_of, write_of, sequence, body_of, numbers_from, lambda_of, lambdas_from, definition_of, forms_from, kernel_of};
 
-use ps_base::{Boxed, Items, Name, NoMemory, Place, PrimName};
+use ps_base::{Boxed, Items, Name, NoMemory, Place, Prim};
 use ps_kernel::{
     Constant, Definition, Definitions, Expr, ExprKind, Exprs, Form, Forms, Kernel, Lambda, Lambdas,
-    Numbers, Operation,
+    Numbers,
 };
 use ps_plain::{Comparison, Expr as Plain, Operator, Procedure, Program, Write};
 use std::alloc::Global;
 
 // The primitive of an operator.
-fn operator(o: Operator) -> PrimName
+fn operator(o: Operator) -> Prim
     ensures { result ≡ operator o }
 {
     match o {
-        Operator::Add => PrimName::Add,
-        Operator::Subtract => PrimName::Subtract,
-        Operator::Multiply => PrimName::Multiply,
+        Operator::Add => Prim::Add,
+        Operator::Subtract => Prim::Subtract,
+        Operator::Multiply => Prim::Multiply,
     }
 }
 
 // The primitive of a comparison.
-fn comparison(q: Comparison) -> PrimName
+fn comparison(q: Comparison) -> Prim
     ensures { result ≡ comparison q }
 {
     match q {
-        Comparison::Less => PrimName::Less,
-        Comparison::Equal => PrimName::Equal,
+        Comparison::Less => Prim::Less,
+        Comparison::Equal => Prim::Equal,
     }
 }
 
@@ -45,10 +44,10 @@ fn expr_at(place: Place, kind: ExprKind) -> Expr
 }
 
 // A primitive and its operands, at a place.
-fn primitive(place: Place, name: PrimName, operands: Exprs) -> Expr
+fn primitive(place: Place, name: Prim, operands: Exprs) -> Expr
     ensures { result ≡ primitive place name operands }
 {
-    expr_at(place, ExprKind::Primitive(Operation::Named(name), operands))
+    expr_at(place, ExprKind::Primitive(name, operands))
 }
 
 // Two expressions in order.
@@ -92,7 +91,7 @@ fn expr(alloc: Global, first: u32, count: u32, e: &Plain) -> Result<Expr, NoMemo
             let operands = exprs(alloc, first, count, es.as_slice())?;
             expr_at(*place, ExprKind::Call(called, operands))
         }
-        Plain::ReadByte(place) => primitive(*place, PrimName::ReadByte, Items::new(alloc)),
+        Plain::ReadByte(place) => primitive(*place, Prim::ReadByte, Items::new(alloc)),
     };
     Ok(converted)
 }
@@ -119,7 +118,7 @@ fn write(alloc: Global, first: u32, count: u32, w: &Write) -> Result<Expr, NoMem
 {
     let mut operands = Items::new(alloc);
     operands.push(expr(alloc, first, count, &w.value)?)?;
-    Ok(primitive(w.place, PrimName::WriteByte, operands))
+    Ok(primitive(w.place, Prim::WriteByte, operands))
 }
 
 // The writes of a body.
