@@ -2,7 +2,7 @@
 //! parameters. A write is `!`, a parameter `x` with its number, and a procedure `f` with its number. Each expression stands
 //! behind its column.
 
-use crate::data::text_of;
+use kernel_data::text_of;
 use ps_base::{Names, Place};
 use ps_plain::{Comparison, Expr, Operator, Procedure, Program};
 use std::alloc::{AllocError, Global};

@@ -3,7 +3,7 @@
 use crate::trouble::Trouble;
 use ps_base::{Items, Name, Names, Place};
 use ps_datum::{Datum, DatumKind};
-use ps_kernel::Numbers;
+use ps_kernel::{Labels, Numbers};
 use std::alloc::Global;
 
 /// Where what has no place of its own stands.
@@ -87,4 +87,36 @@ pub fn numbers_of(alloc: Global, d: &Datum) -> Result<Numbers, Trouble> {
         DatumKind::List(parts) => all_numbers(alloc, parts.as_slice()),
         _ => Ok(Items::from_slice(alloc, &[number_of(d)?])?),
     }
+}
+
+// An integer, or the code of a character.
+fn label_of(d: &Datum) -> Result<i64, Trouble> {
+    match &d.kind {
+        DatumKind::Char(code) => Ok(i64::from(*code)),
+        _ => integer_of(d),
+    }
+}
+
+// So many integers from one on.
+fn labels_from(alloc: Global, first: u32, count: u32) -> Result<Labels, Trouble> {
+    let mut labels = Items::new(alloc);
+    for i in 0..count {
+        labels.push(i64::from(first.wrapping_add(i)))?;
+    }
+    Ok(labels)
+}
+
+/// The labels in a list, or, of a vector, its second number of integers from its first one on.
+pub fn labels_of(alloc: Global, d: &Datum) -> Result<Labels, Trouble> {
+    if let DatumKind::Vector(parts) = &d.kind {
+        return match parts.as_slice() {
+            [first, count] => labels_from(alloc, number_of(first)?, number_of(count)?),
+            _ => Err(Trouble::Unread(d.place)),
+        };
+    }
+    let mut labels = Items::new(alloc);
+    for label in members(d)? {
+        labels.push(label_of(label)?)?;
+    }
+    Ok(labels)
 }

@@ -4,9 +4,10 @@ use crate::data::text_of;
 use crate::trouble::Trouble;
 use ps_base::{Names, Prim};
 use ps_datum::{Datum, DatumKind};
+use ps_kernel::CaseKind;
 
 /// What an expression begins with.
-#[derive(Clone, Copy, Debug, PartialEq, Eq)]
+#[derive(Clone, Copy)]
 pub enum Head {
     Unit,
     Null,
@@ -19,13 +20,14 @@ pub enum Head {
     Letrec,
     Begin,
     Set,
+    SetLocal,
+    Case,
     Call,
     Proper,
     Maker,
     Predicate,
     Accessor,
     Modifier,
-    Named,
     At,
     Deep,
     Wide,
@@ -33,7 +35,7 @@ pub enum Head {
 }
 
 /// What a part of a case begins with.
-#[derive(Clone, Copy, Debug, PartialEq, Eq)]
+#[derive(Clone, Copy)]
 pub enum Section {
     Definitions,
     Lambda,
@@ -54,7 +56,7 @@ pub enum Section {
 }
 
 /// What a type begins with.
-#[derive(Clone, Copy, Debug, PartialEq, Eq)]
+#[derive(Clone, Copy)]
 pub enum TypeWord {
     Integer,
     Char,
@@ -64,15 +66,6 @@ pub enum TypeWord {
     Proc,
     Var,
     Deep,
-}
-
-/// What a case begins with.
-#[derive(Clone, Copy, Debug, PartialEq, Eq)]
-pub enum CaseWord {
-    Base,
-    Valid,
-    Run,
-    Resolve,
 }
 
 pub const HEADS: &[(&str, Head)] = &[
@@ -87,13 +80,14 @@ pub const HEADS: &[(&str, Head)] = &[
     ("letrec", Head::Letrec),
     ("begin", Head::Begin),
     ("set!", Head::Set),
+    ("set-local!", Head::SetLocal),
+    ("case", Head::Case),
     ("call", Head::Call),
     ("proper", Head::Proper),
     ("maker", Head::Maker),
     ("predicate", Head::Predicate),
     ("accessor", Head::Accessor),
     ("modifier", Head::Modifier),
-    ("named", Head::Named),
     ("at", Head::At),
     ("deep", Head::Deep),
     ("wide", Head::Wide),
@@ -148,11 +142,9 @@ pub const TYPES: &[(&str, TypeWord)] = &[
     ("deep", TypeWord::Deep),
 ];
 
-pub const CASES: &[(&str, CaseWord)] = &[
-    ("base", CaseWord::Base),
-    ("valid", CaseWord::Valid),
-    ("run", CaseWord::Run),
-    ("resolve", CaseWord::Resolve),
+pub const CASE_KINDS: &[(&str, CaseKind)] = &[
+    ("integer", CaseKind::Integer),
+    ("char", CaseKind::Char),
 ];
 
 /// What a table says of the word that a symbol is.

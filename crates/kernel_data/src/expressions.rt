@@ -1,17 +1,18 @@
 //! Expressions. Each stands at line 1 and column 1, unless it is written `(at COLUMN e)`.
 //!
 //! `5`, `#t`, `#\a`, `unit`, `null`, `(quoted N)`, `(local N)`, `(global N)`, `(lambda N)`, `(if a b c)`, `(let N a b)`,
-//! `(letrec (LOCAL LAMBDA ...) b)`, `(begin e ...)`, `(set! N e)`, `(call f e ...)`, `(proper f e ...)`, `(maker K e ...)`,
-//! `(predicate K e ...)`, `(accessor (K FIELD) e ...)`, `(modifier (K FIELD) e ...)`, and the name of a primitive with its
-//! operands. `(named e)` is an operation on records that is told by its primitive. `(deep N)` is N levels deep, and `(wide N)`
-//! a sequence of N parts, each of which binds a local of its own in 3 expressions.
+//! `(letrec (LOCAL LAMBDA ...) b)`, `(begin e ...)`, `(set! N e)` of a definition, `(set-local! N e)`, `(call f e ...)`,
+//! `(proper f e ...)`, `(maker K e ...)`, `(predicate K e ...)`, `(accessor (K FIELD) e ...)`, `(modifier (K FIELD) e ...)`, and
+//! the name of a primitive with its operands. `(case KIND KEY ELSE (LABELS e) ...)` is a case, whose KIND is `integer` or
+//! `char`, and LABELS a list of integers and characters, or `#(N COUNT)` for so many integers from N on. `(deep N)` is N levels
+//! deep, and `(wide N)` a sequence of N parts, each of which binds a local of its own in 3 expressions.
 
-use crate::data::{PLACE, numbers_of};
+use crate::data::{PLACE, labels_of, numbers_of};
 use crate::trouble::Trouble;
-use crate::words::{HEADS, Head, meaning_of};
+use crate::words::{CASE_KINDS, HEADS, Head, meaning_of};
 use ps_base::{Boxed, Items, Names, Place, Prim};
 use ps_datum::{Datum, DatumKind};
-use ps_kernel::{Constant, Expr, ExprKind, Exprs, Group, GroupEntry, Operation};
+use ps_kernel::{Constant, Expr, ExprKind, Exprs, Group, GroupEntry, Labelled};
 use std::alloc::Global;
 
 fn here(kind: ExprKind) -> Expr {
@@ -47,6 +48,9 @@ fn form(
     head: Head,
     rest: &[Datum],
 ) -> Result<Expr, Trouble> {
+    if let Head::Case = head {
+        return case(alloc, names, at, rest);
+    }
     if !takes_numbers(head) {
         return node(alloc, at, head, &[], exprs(alloc, names, rest)?);
     }
@@ -75,6 +79,37 @@ fn exprs(alloc: Global, names: &Names, ds: &[Datum]) -> Result<Exprs, Trouble> {
     Ok(all)
 }
 
+// A case, by its kind, its key, its last expression and its branches.
+#[cycle(expr)]
+fn case(alloc: Global, names: &Names, at: Place, rest: &[Datum]) -> Result<Expr, Trouble> {
+    let [kind, key, last, rest @ ..] = rest else {
+        return Err(Trouble::Unread(at));
+    };
+    let kind = meaning_of(CASE_KINDS, names, kind)?;
+    let key = Boxed::new(alloc, expr(alloc, names, key)?)?;
+    let last = Boxed::new(alloc, expr(alloc, names, last)?)?;
+    let mut branches = Items::new(alloc);
+    for d in rest {
+        branches.push(labelled(alloc, names, d)?)?;
+    }
+    Ok(here(ExprKind::Case(kind, key, branches, last)))
+}
+
+// A branch of a case.
+#[cycle(expr)]
+fn labelled(alloc: Global, names: &Names, d: &Datum) -> Result<Labelled, Trouble> {
+    match &d.kind {
+        DatumKind::List(parts) => match parts.as_slice() {
+            [labels, body] => Ok(Labelled {
+                labels: labels_of(alloc, labels)?,
+                body: expr(alloc, names, body)?,
+            }),
+            _ => Err(Trouble::Unread(d.place)),
+        },
+        _ => Err(Trouble::Unread(d.place)),
+    }
+}
+
 // Whether numbers stand behind a head.
 fn takes_numbers(head: Head) -> bool {
     match head {
@@ -84,7 +119,6 @@ fn takes_numbers(head: Head) -> bool {
         Head::Begin => false,
         Head::Call => false,
         Head::Proper => false,
-        Head::Named => false,
         Head::Prim(_) => false,
         _ => true,
     }
@@ -123,15 +157,11 @@ fn node(
 ) -> Result<Expr, Trouble> {
     match (head, numbers) {
         (Head::Begin, _) => Ok(here(ExprKind::Begin(parts))),
-        (Head::Prim(p), _) => Ok(operation(Operation::Named(p), parts)),
-        (Head::Maker, [kind]) => Ok(operation(Operation::Maker(*kind), parts)),
-        (Head::Predicate, [kind]) => Ok(operation(Operation::Predicate(*kind), parts)),
-        (Head::Accessor, [kind, field]) => {
-            Ok(operation(Operation::Accessor(*kind, *field), parts))
-        }
-        (Head::Modifier, [kind, field]) => {
-            Ok(operation(Operation::Modifier(*kind, *field), parts))
-        }
+        (Head::Prim(p), _) => Ok(primitive(p, parts)),
+        (Head::Maker, [kind]) => Ok(primitive(Prim::Maker(*kind), parts)),
+        (Head::Predicate, [kind]) => Ok(primitive(Prim::Predicate(*kind), parts)),
+        (Head::Accessor, [kind, field]) => Ok(primitive(Prim::Accessor(*kind, *field), parts)),
+        (Head::Modifier, [kind, field]) => Ok(primitive(Prim::Modifier(*kind, *field), parts)),
         _ => {
             if parts.is_empty() {
                 leaf(alloc, at, head, numbers)
@@ -142,8 +172,8 @@ fn node(
     }
 }
 
-fn operation(operation: Operation, operands: Exprs) -> Expr {
-    here(ExprKind::Primitive(operation, operands))
+fn primitive(p: Prim, operands: Exprs) -> Expr {
+    here(ExprKind::Primitive(p, operands))
 }
 
 // An expression whose parts stand at different places of it.
@@ -157,9 +187,9 @@ fn branch(
     let mut parts = parts;
     let first = next(alloc, at, &mut parts)?;
     match (head, numbers) {
-        (Head::Named, _) => Ok(named(first.into_inner())),
         (Head::At, [column]) => Ok(placed(*column, first.into_inner())),
         (Head::Set, [g]) => Ok(here(ExprKind::SetGlobal(*g, first))),
+        (Head::SetLocal, [x]) => Ok(here(ExprKind::SetLocal(*x, first))),
         (Head::Letrec, entries) => Ok(here(ExprKind::Letrec(group(alloc, entries)?, first))),
         (Head::Call, _) => Ok(here(ExprKind::Call(first, parts))),
         (Head::Proper, _) => Ok(here(ExprKind::ProperCall(first, parts))),
@@ -173,25 +203,6 @@ fn branch(
             Ok(here(ExprKind::If(first, yes, no)))
         }
         _ => Err(Trouble::Unread(at)),
-    }
-}
-
-// The primitive of an operation.
-fn prim_of(operation: Operation) -> Prim {
-    match operation {
-        Operation::Named(prim) => prim,
-        Operation::Maker(kind) => Prim::Maker(kind),
-        Operation::Predicate(kind) => Prim::Predicate(kind),
-        Operation::Accessor(kind, field) => Prim::Accessor(kind, field),
-        Operation::Modifier(kind, field) => Prim::Modifier(kind, field),
-    }
-}
-
-// The same expression, whose operation is told by its primitive.
-fn named(e: Expr) -> Expr {
-    match e.kind {
-        ExprKind::Primitive(o, operands) => operation(Operation::Named(prim_of(o)), operands),
-        kind => here(kind),
     }
 }
 
