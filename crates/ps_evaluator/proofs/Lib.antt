@@ -1,4 +1,0 @@
-mod Steps
-mod Joins
-mod Performs
-mod Entering

@@ -1,6 +1,0 @@
-use Rattle.ps_kernel.specs.Texts.{locals_in}
-use Rattle.ps_evaluator.proofs.Steps.{joins}
-use Rattle.ps_evaluator.proofs.texts.+locals.Goals as goal
-
-pub add_each_locals-loop-e-preserved : goal.add_each_locals-loop-e-preserved
-add_each_locals-loop-e-preserved t c = joins locals_in c.args.es.now c.loop-e.e-index c.e-item.result c.args.all.now c.loop-e.all c.add_locals.new.all c.loop-e-test.true c.e-item.is c.loop-e.invariant c.in_ok-add_locals.ensures

@@ -1,6 +1,0 @@
-use Rattle.std.proofs.Common.{◌∙◌}
-use Rattle.ps_evaluator.proofs.Joins.{down_call}
-use Rattle.ps_evaluator.proofs.turns.call.Goals as goal
-
-pub returns : goal.returns
-returns c = λ k f. down_call k f c.args.at c.args.deep c.args.f.now c.args.es c.args.depth c.args.env c.in_ok-kept.kept c.args.frames.now.items c.push.new.self.items (c.in_ok-kept.ensures ∙ c.as_slice.ensures) c.in_ok-push.ensures.items

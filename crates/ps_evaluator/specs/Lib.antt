@@ -1,4 +1,0 @@
-pub mod InsideLists
-pub mod InsideMachine
-pub mod Evaluating
-pub mod InsideEvaluating
