@@ -9,6 +9,8 @@ pub mod MakesAreTheRows
 pub mod PerformsTheRow
 mod DivisionsAreRounded
 mod ShiftsRoundDown
+mod BitsAreDigits
+mod RowsActOnBits
 pub mod FieldsAreFilled
 pub mod ValuesAreCollected
 pub mod RecordsAreTheRows

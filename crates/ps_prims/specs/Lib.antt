@@ -8,6 +8,7 @@ pub mod Cells
 pub mod Needs
 pub mod Division
 pub mod Shifting
+pub mod TwosComplement
 pub mod Inside
 pub mod InsideSorts
 pub mod InsideRecords

@@ -28,7 +28,10 @@ mod telling;
 
 pub use cells::cells_asked;
 pub use kinds::is_there;
-pub use laws::{cells_are_counted, divisions_are_rounded, rows_are_natural, shifts_round_down};
+pub use laws::{
+    bits_are_combined, bits_are_moved, cells_are_counted, divisions_are_rounded,
+    integers_have_their_bits, rows_are_natural, shifts_round_down,
+};
 pub use outcome::PrimOut;
 pub use performing::perform;
 pub use schemes::scheme_of;

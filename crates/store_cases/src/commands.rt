@@ -1,13 +1,15 @@
 //! Commands, and what each of them answers.
 //!
 //! Beside the primitives these are `(asks (PRIMITIVE VALUE ...))`, the cells that it would ask for, `(fix-bytes N BYTE ...)` and `(fix-cells N VALUE ...)`, which add fixed block N,
-//! `(cells COUNT)`, which makes a block of cells of which none is set, `(world (BYTE ...) (GRANT ...))`, another world, and
-//! `(use-grant)`, `(read)`, `(peek)`, `(granted)`, `(next-fixed)` and `(next-made)`.
+//! `(cells COUNT)`, which makes a block of cells of which none is set, `(world (BYTE ...) (GRANT ...))`, another world,
+//! `(use-grant)` and `(read)`, and what only looks: `(peek)`, `(granted)`, `(next-fixed)`, `(next-made)`, `(fixed-count)`,
+//! `(fixed N)`, what fixed block N has, and `(fixed-blocks)`, each with its number.
 
 ghost use Rattle.std.specs.Prelude.{◌≡◌, ◌<◌, ◌≤◌, length, true, IsTrue};
 ghost use Rattle.byte_store.specs.Blocks.{next_number};
 ghost use Rattle.ps_prims.specs.Kinds.{AreKinds};
 
+use crate::blocks::{block_text, blocks_text};
 use crate::data::{byte_of, flag_of, form_of, integer_of, members, number_of, values_of, word};
 use crate::kinds::kinds;
 use crate::scene::Scene;
@@ -234,11 +236,27 @@ fn other(
             scene.world.use_grant();
             Ok(String::from_str(alloc, "used")?)
         }
-        (b"peek", []) => Ok(format!(in alloc; "{:?}", scene.world.peek())?),
         (b"read", []) => Ok(format!(in alloc; "{:?}", scene.world.read())?),
+        _ => look(alloc, names, first, parts, scene),
+    }
+}
+
+// A command that only looks, by its word.
+fn look(
+    alloc: Global,
+    names: &Names,
+    first: &Datum,
+    parts: &[Datum],
+    scene: &Scene,
+) -> Result<String, Trouble> {
+    match (word(names, first), parts) {
+        (b"peek", []) => Ok(format!(in alloc; "{:?}", scene.world.peek())?),
         (b"granted", []) => Ok(format!(in alloc; "{:?}", scene.world.granted())?),
         (b"next-fixed", []) => Ok(format!(in alloc; "{:?}", scene.store.next_fixed())?),
         (b"next-made", []) => Ok(format!(in alloc; "{:?}", next_made(&scene.store))?),
+        (b"fixed-count", []) => Ok(format!(in alloc; "{:?}", scene.store.fixed_count())?),
+        (b"fixed", [number]) => block_text(alloc, number, &scene.store),
+        (b"fixed-blocks", []) => blocks_text(alloc, &scene.store),
         _ => Err(Trouble::Unread(first.place)),
     }
 }

@@ -17,6 +17,7 @@
 //! The kinds of records are the two of `kinds.rt`.
 #![tactic(auto)]
 
+mod blocks;
 mod cases;
 mod commands;
 mod data;
