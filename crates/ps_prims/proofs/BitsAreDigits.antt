@@ -1,11 +1,10 @@
 -- The bits of an integer are the digits of the number that it is read as without a sign.
 -- For: integers_have_their_bits
-use Rattle.std.proofs.Common.{◌≡◌, ℕ, zero, suc, ◌+◌, ◌-◌, ◌*◌, ◌/◌, ◌%◌, ◌^◌, ◌<◌, ◌≤◌, min, max, ℤ, pos, negsuc, ◌+ℤ◌, ◌-ℤ◌, ◌*ℤ◌, ◌==◌, Bool, true, false, not, ◌&&◌, ◌||◌, if◌then◌else◌, ◌⊎◌, inl, inr, ⊎_elim, refl, sym, ap, subst, ◌∙◌, arith, pow-suc, lt-ltb, le-ltb, ltb-true}
-use Rattle.std.specs.Int.{w64, bit_at, bit_not, cast_signed, cast_unsigned, int_bit_and, int_bit_or, int_bit_xor, int_bit_not, int_shl, int_shr}
-use Rattle.std.specs.Int.RustNames.{bit_and, bit_or, bit_xor, FitsSigned}
+use Rattle.std.proofs.Common.{◌≡◌, ℕ, zero, suc, ◌+◌, ◌-◌, ◌*◌, ◌/◌, ◌%◌, ◌^◌, ◌<◌, ◌≤◌, ℤ, pos, negsuc, ◌-ℤ◌, ◌==◌, Bool, true, false, if◌then◌else◌, ◌⊎◌, inl, inr, ⊎_elim, refl, sym, ap, ◌∙◌, arith, pow-suc, lt-ltb, le-ltb, ltb-true}
+use Rattle.std.specs.Int.{w64, bit_at, bit_not, cast_signed, cast_unsigned}
+use Rattle.std.specs.Int.RustNames.{FitsSigned}
 use Rattle.std.proofs.lemmas.Int.{ints, to_z-of_z, of_z-to_z, to_z_pos}
-use Rattle.std.proofs.lemmas.Nat.{pow_pos, shr-shr, shr_split, and_le_l, or_lt, xor_lt}
-use Rattle.std.proofs.lemmas.Nat.Bits.{bit_at_and, bit_at_or, bit_at_xor, bit_at_not, bit_at-lt, bit_at_above, bit_at_cat_low, bit_at_cat_high, bit_at-zero, bit_at_lowest, same_from_bits_below}
+use Rattle.std.proofs.lemmas.Nat.Bits.{bit_at_not, bit_at-lt, bit_at_cat_low, bit_at_cat_high, bit_at_lowest, same_from_bits_below}
 use Rattle.std.proofs.lemmas.Bool.{cases_lt, false≢true, true≢false}
 use Rattle.ps_base.specs.Numbers.{is_word}
 use Rattle.ps_prims.specs.TwosComplement.{bit, digit, worth, integer_of, BitsMakeTheInteger, BitsTellTheInteger, IntegersHaveTheirBits}

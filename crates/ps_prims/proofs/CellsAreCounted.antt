@@ -1,9 +1,9 @@
 -- The cells that a primitive asks for are those that the memory gains.
 -- For: cells_are_counted
-use Rattle.std.proofs.Common.{◌≡◌, ℕ, zero, suc, ◌+◌, ◌/◌, ◌<◌, ◌≤◌, ℤ, pos, negsuc, List, [], ◌∷◌, ◌++◌, length, map, drop, not, Bool, true, false, Option, Some, None, Result, Ok, Err, refl, sym, ap, subst, ◌∙◌, arith, length-append}
-use Rattle.std.specs.Prelude.{if◌then◌else◌, nat_eq, nat_lt, replicate, slice_get, ◌&&◌, is_some}
+use Rattle.std.proofs.Common.{◌≡◌, ℕ, zero, suc, ◌+◌, ◌/◌, ℤ, pos, negsuc, List, [], ◌∷◌, ◌++◌, length, map, drop, Bool, true, false, Option, Some, None, Result, Ok, Err, refl, sym, ap, subst, ◌∙◌, arith, length-append}
+use Rattle.std.specs.Prelude.{if◌then◌else◌, nat_eq, nat_lt, replicate, ◌&&◌, is_some}
 use Rattle.std.specs.Int.{w64, int_bit_and, int_bit_or, int_bit_xor}
-use Rattle.std.proofs.lemmas.List.{length-set, length-map, length-replicate, map-append, append-nil}
+use Rattle.std.proofs.lemmas.List.{length-set, length-map, length-replicate, map-append}
 use Rattle.std.proofs.Math.Seq.{drop-append_seam}
 use Rattle.ps_base.proofs.Choices.{err_ok, ok_same, true_false}
 use Rattle.ps_base.specs.declared.faults.Op.{Op}
@@ -17,7 +17,7 @@ use Rattle.byte_store.specs.declared.pointer.Base.TheVariants.{Fixed, Made}
 use Rattle.byte_store.specs.declared.pointer.Pointer.{Pointer}
 use Rattle.byte_store.specs.declared.pointer.Pointer.TheVariants.{Null, At}
 use Rattle.byte_store.specs.declared.pointer.Word.{Word}
-use Rattle.byte_store.specs.Blocks.{Block, Bytes, Cells, Freed, Memory, block_of, next_number, replaced, with_block}
+use Rattle.byte_store.specs.Blocks.{Block, Bytes, Cells, Memory, block_of, next_number, replaced, with_block}
 use Rattle.byte_store.specs.Operations as store
 use Rattle.byte_store.specs.Operations.{and_then, change, inside, is_size, granted, Allocation}
 use Rattle.byte_store.specs.Worlds.{Surroundings, next_grant}
@@ -27,7 +27,7 @@ use Rattle.ps_prims.specs.declared.stages.Stage.TheVariants.{Compile, Run}
 use Rattle.ps_prims.specs.declared.stages.Stages.{Stages}
 use Rattle.ps_prims.specs.declared.stages.Stages.TheVariants.{Both, CompileOnly, RunOnly}
 use Rattle.ps_prims.specs.Sorts.{Sort, Values, Meant, Taking, answered, applied, and_takes, collecting, fits, read}
-use Rattle.ps_prims.specs.Records.{fields, maker_order, made, filled, put_fields, puts_seen}
+use Rattle.ps_prims.specs.Records.{fields, maker_order, made, filled, puts_seen}
 use Rattle.ps_prims.specs.Rows.{Act, Scene, Done, Row, Performed, Answers, Undefined, Wrong, answers, gives, finds, changes, makes, fixes, byte_of, reads, writes, vector_of, appended, row, perform_row, performed, at_scene}
 use Rattle.ps_prims.specs.Kinds.{AreKinds}
 use Rattle.ps_prims.specs.Cells.{cells_of, cells_in, blocks_in, cells_between, for_cells, for_bytes, for_texts, counted, where_granted, asks}

@@ -1,12 +1,12 @@
 -- A maker asks for its fields, and a primitive that makes no block for no cells.
 -- For: asked_for_record, asked
-use Rattle.std.proofs.Common.{◌≡◌, ℕ, pos, List, [], ◌∷◌, length, Bool, true, false, Option, Some, None, refl, sym, ap, ◌∙◌}
+use Rattle.std.proofs.Common.{◌≡◌, ℕ, pos, List, [], ◌∷◌, length, true, false, Option, Some, None, refl, ap}
 use Rattle.ps_base.specs.declared.language.PrimName.{PrimName}
 use Rattle.ps_base.specs.declared.language.PrimName.TheVariants as prims
 use Rattle.byte_store.specs.declared.pointer.Value.{Value}
 use Rattle.byte_store.specs.Blocks.{Memory}
 use Rattle.ps_types.specs.declared.types.RecordKind.{RecordKind}
-use Rattle.ps_prims.specs.Sorts.{Sort, Meant, answered, applied, and_takes, collecting, first_order, fits, read}
+use Rattle.ps_prims.specs.Sorts.{Sort, Meant, applied, and_takes, collecting, first_order, fits, read}
 use Rattle.ps_prims.specs.Records.{fields}
 use Rattle.ps_prims.specs.Rows.{row}
 use Rattle.ps_prims.specs.Cells.{asked, asks, counted, for_cells}

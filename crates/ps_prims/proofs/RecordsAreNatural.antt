@@ -1,6 +1,6 @@
 -- The rows of records do on values that stand for others what they do on those.
 -- For: the law that rows are natural
-use Rattle.std.proofs.Common.{◌≡◌, ℕ, pos, List, [], ◌∷◌, length, map, replicate, not, Bool, true, false, Option, Some, None, Result, Ok, Err, refl, sym, ap, ◌∙◌, subst}
+use Rattle.std.proofs.Common.{◌≡◌, ℕ, pos, List, [], ◌∷◌, length, map, replicate, not, Bool, true, false, Option, None, Result, Ok, Err, refl, sym, ap, ◌∙◌, subst}
 use Rattle.std.specs.Prelude.{if◌then◌else◌}
 use Rattle.std.specs.Option.{option_map}
 use Rattle.ps_base.specs.declared.faults.Op.{Op}
@@ -24,8 +24,8 @@ use Rattle.ps_prims.specs.declared.sorts.Sort.{Sort}
 use Rattle.ps_prims.specs.declared.stages.Stage.{Stage}
 use Rattle.ps_prims.specs.declared.stages.Stage.TheVariants.{Compile, Run}
 use Rattle.ps_prims.specs.Sorts.{Values, Meant, answered}
-use Rattle.ps_prims.specs.Rows.{Act, Done, Scene, finds, changes, unseen}
-use Rattle.ps_prims.specs.Records.{fields, maker_order, sort_of_field, put_fields, puts_seen, filled, made, maker, predicate, accessor, puts, modifier}
+use Rattle.ps_prims.specs.Rows.{Done, Scene, finds, unseen}
+use Rattle.ps_prims.specs.Records.{fields, maker_order, sort_of_field, put_fields, puts_seen, filled, made, maker, puts, modifier}
 use Rattle.ps_prims.specs.Mapping.{SeenAlike, map_scene, map_done}
 use Rattle.ps_prims.proofs.OperandsAreNatural.{Acts, Takes, meant, answered_map, collecting_map}
 use Rattle.ps_prims.proofs.ActsAreNatural.{finds_in, finds_map, changes_map}

@@ -1,6 +1,6 @@
 -- The operations of records do what their rows say.
 -- For: the functions of records.rt
-use Rattle.std.proofs.Common.{◌≡◌, ℕ, suc, ◌<◌, arith, ℤ, pos, List, [], ◌∷◌, ◌++◌, length, map, not, Bool, true, false, Option, Some, None, Result, Ok, Err, refl, sym, ap, subst, ◌∙◌}
+use Rattle.std.proofs.Common.{◌≡◌, ℕ, suc, arith, pos, List, [], ◌∷◌, ◌++◌, length, map, not, Bool, true, false, Option, Some, None, Result, Ok, Err, refl, sym, ap, subst, ◌∙◌}
 use Rattle.std.specs.Prelude.{if◌then◌else◌, is_some, replicate, slice_get}
 use Rattle.std.proofs.lemmas.List.{append-nil, length-map, length-replicate}
 use Rattle.ps_base.proofs.Choices.{and_rest, err_ok, ok_same, true_false}
@@ -24,9 +24,9 @@ use Rattle.ps_prims.specs.declared.outcome.PrimOut.{PrimOut}
 use Rattle.ps_prims.specs.declared.outcome.PrimOut.TheVariants as out
 use Rattle.ps_prims.specs.declared.stages.Stage.{Stage}
 use Rattle.ps_prims.specs.declared.stages.Stage.TheVariants.{Compile, Run}
-use Rattle.ps_prims.specs.Sorts.{Sort, Record, Meant, Taking, answered, applied, and_takes, first_order, fits, read}
+use Rattle.ps_prims.specs.Sorts.{Sort, Record, Taking, answered, applied, and_takes, first_order, fits, read}
 use Rattle.ps_prims.specs.Records.{fields, fields_of, maker_of, maker_order, sort_of_field, made, filled, put_fields, puts}
-use Rattle.ps_prims.specs.Rows.{Act, Done, finds, perform_row, row, unseen}
+use Rattle.ps_prims.specs.Rows.{Done, perform_row, row}
 use Rattle.ps_prims.specs.Kinds.{AreKinds}
 use Rattle.ps_prims.specs.Once.{EachOnce}
 use Rattle.ps_prims.specs.Performing.{Comes, State, state}
@@ -34,7 +34,7 @@ use Rattle.ps_prims.specs.Inside.{Acts, Changed, Found, FoundQuietly}
 use Rattle.ps_prims.specs.InsidePerforming.{Changes, Looks, LooksQuietly}
 use Rattle.ps_prims.specs.InsideRecords.{record_seen, scattered}
 use Rattle.ps_prims.proofs.ChangesAreTheRows.{changes_of, changes_wrong}
-use Rattle.ps_prims.proofs.FieldsAreFilled.{Below, below_each, fixed_filled, made_filled, nat_eq_self, one_more}
+use Rattle.ps_prims.proofs.FieldsAreFilled.{Below, below_each, fixed_filled, made_filled, nat_eq_self}
 use Rattle.ps_prims.proofs.LooksChangeNothing.{looks_of, looks_quietly}
 use Rattle.ps_prims.proofs.MakesAreTheRows.{comes_of}
 use Rattle.ps_prims.proofs.ValuesAreCollected.{collected, reads_some}

@@ -1,6 +1,6 @@
 -- Primitives do on values that stand for others what they do on those: a case for each.
 -- For: `rows_are_natural`, and the law that primitives at run time do on values of first order what they do on them as such
-use Rattle.std.proofs.Common.{◌≡◌, ℕ, ℤ, pos, negsuc, List, [], ◌∷◌, map, not, Bool, true, false, Option, Some, None, Result, Ok, Err, refl, ap, sym, ◌∙◌, length, subst}
+use Rattle.std.proofs.Common.{◌≡◌, ℕ, pos, List, [], ◌∷◌, map, not, Option, Some, None, Ok, refl, ap, ◌∙◌, length}
 use Rattle.std.specs.Prelude.{◌+ℤ◌, ◌-ℤ◌, ◌*ℤ◌, nat_eq, nat_lt, int_lt, int_div, int_rem, if◌then◌else◌}
 use Rattle.std.specs.Ordering.{int_eq}
 use Rattle.std.specs.Int.{w64, int_bit_and, int_bit_or, int_bit_xor, int_bit_not, int_shl, int_shr}
@@ -21,8 +21,8 @@ use Rattle.ps_prims.specs.declared.stages.Stage.TheVariants.{Compile, Run}
 use Rattle.ps_prims.specs.declared.sorts.Sort.{Sort}
 use Rattle.ps_prims.specs.Sorts.{Values, Taking, applied, collecting}
 use Rattle.ps_prims.specs.Rows.{Scene, row, perform, fitting, dividing, modulo, shifting, logical_shr, is_zero, is_negative, is_same, char_of, unseen, equal_texts}
-use Rattle.ps_prims.specs.Records.{fields, maker_order}
-use Rattle.ps_prims.specs.Cells.{for_cells, for_bytes, for_texts, asks, counted, asked, asked_at}
+use Rattle.ps_prims.specs.Records.{fields}
+use Rattle.ps_prims.specs.Cells.{for_cells, for_texts, asks, counted, asked, asked_at}
 use Rattle.ps_prims.specs.Mapping.{SeenAlike, map_scene, map_performed, RowsAreNatural}
 use Rattle.ps_prims.proofs.OperandsAreNatural.{Takes, Both, applied_map, collecting_map, row_map}
 use Rattle.ps_prims.proofs.ActsAreNatural.{answers_map, gives_map, finds_in, finds_map, changes_map, makes_map, reads_map, writes_map, vector_of_map, appended_map, equal_texts_map}

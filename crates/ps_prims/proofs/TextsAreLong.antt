@@ -1,6 +1,6 @@
 -- The length of a string is that of its bytes.
 -- For: length_of and for_texts of cells.rt
-use Rattle.std.proofs.Common.{◌≡◌, ℕ, zero, suc, ◌+◌, ◌/◌, ℤ, pos, negsuc, List, [], ◌∷◌, length, take, Option, Some, None, Result, Ok, Err, refl, sym, ap, subst, ◌∙◌, unsigned_abs}
+use Rattle.std.proofs.Common.{◌≡◌, ℕ, zero, suc, ◌+◌, ◌/◌, ℤ, pos, List, [], ◌∷◌, length, take, Option, Some, None, Result, Ok, Err, refl, sym, ap, subst, ◌∙◌, unsigned_abs}
 use Rattle.ps_base.proofs.Choices.{err_ok, none_some, ok_same, some_same}
 use Rattle.ps_base.specs.declared.faults.Op.{Op}
 use Rattle.byte_store.specs.declared.pointer.Pointer.{Pointer}

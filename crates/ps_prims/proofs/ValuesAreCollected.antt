@@ -7,7 +7,7 @@ use Rattle.byte_store.specs.declared.pointer.Pointer.{Pointer}
 use Rattle.byte_store.specs.declared.pointer.Value.{Value}
 use Rattle.byte_store.specs.declared.pointer.Value.TheVariants as value
 use Rattle.ps_prims.proofs.FieldsAreFilled.{nat_eq_same}
-use Rattle.ps_prims.specs.Sorts.{Sort, Integer, Boolean, Char, Unit', Address, Text, Vector, Record, Any, Meant, Taking, as_integer, as_boolean, as_char, as_unit, as_address, as_text, as_vector, as_record, read, answered, applied, and_takes, collecting, fits, first_order}
+use Rattle.ps_prims.specs.Sorts.{Sort, Integer, Boolean, Char, Unit', Address, Text, Vector, Record, Any, Meant, as_integer, as_boolean, as_char, as_unit, as_address, as_text, as_vector, as_record, read, answered, applied, and_takes, collecting, fits, first_order}
 
 integer_again : (v : Value) (x : ℤ) → as_integer v ≡ Some x → value.Integer x ≡ v
 integer_again (value.Integer i) x is = ap value.Integer (sym (some_same is))

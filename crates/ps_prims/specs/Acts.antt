@@ -2,7 +2,7 @@
 --
 -- What a row does is a function of its operands (`Taking`), of the stage, and of the memory and the world; it answers a value,
 -- the memory and world after, and what is seen from outside.
-use Rattle.std.specs.Prelude.{ℕ, ℤ, pos, negsuc, List, [], ◌∷◌, ◌++◌, map, replicate, Bool, nat_lt, bytes_eq, if◌then◌else◌, Some, Result, Ok, Err}
+use Rattle.std.specs.Prelude.{ℤ, pos, negsuc, List, [], ◌∷◌, ◌++◌, map, replicate, Bool, nat_lt, bytes_eq, if◌then◌else◌, Some, Result, Ok, Err}
 use Rattle.ps_base.specs.declared.faults.Op.{Op}
 use Rattle.ps_base.specs.declared.faults.Op.TheVariants as ops
 use Rattle.byte_store.specs.declared.event.Event.{Event}

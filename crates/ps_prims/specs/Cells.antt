@@ -4,7 +4,7 @@
 -- said before it takes effect. A vector and a record have their cells, a string of L bytes (L + 8) / 8 of them and a block of n
 -- bytes (n + 7) / 8, rounded down. An allocation that is refused at run time makes none, and neither does what is undefined or
 -- wrong.
-use Rattle.std.specs.Prelude.{ℕ, ℤ, pos, negsuc, ◌+◌, ◌/◌, List, length, map, drop, Bool, if◌then◌else◌, Option, Some, None, Result, Ok, Err}
+use Rattle.std.specs.Prelude.{ℕ, ℤ, pos, negsuc, ◌+◌, ◌/◌, List, length, map, drop, if◌then◌else◌, Option, Some, None, Result, Ok, Err}
 use Rattle.ps_base.specs.Numbers.{sum_of}
 use Rattle.ps_base.specs.declared.faults.Op.{Op}
 use Rattle.ps_base.specs.declared.language.PrimName.{PrimName}

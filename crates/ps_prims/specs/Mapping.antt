@@ -4,7 +4,7 @@
 -- memory whose cells hold f of theirs, what it does on the operands themselves. It answers f of the answer, leaves f of the
 -- memory and the same world, and is seen the same from outside; or it is undefined by the same cause; or both are wrong. It
 -- asks for as many cells.
-use Rattle.std.specs.Prelude.{◌≡◌, List, map, Option}
+use Rattle.std.specs.Prelude.{◌≡◌, List, map}
 use Rattle.ps_base.specs.declared.language.PrimName.{PrimName}
 use Rattle.byte_store.specs.declared.pointer.Value.{Value}
 use Rattle.byte_store.specs.Mapping.{map_memory}

@@ -2,7 +2,7 @@
 --
 -- A record is a pointer to a block with a cell for each field, in the order of the fields, or null. The maker of a kind takes a
 -- value for each field, in an order of its own, which the kind says; the others take a record of their kind first.
-use Rattle.std.specs.Prelude.{ℕ, pos, List, [], ◌∷◌, length, map, replicate, Bool, not, if◌then◌else◌, slice_get, Option, Some, None, Result, Ok, Err}
+use Rattle.std.specs.Prelude.{ℕ, pos, List, [], ◌∷◌, length, map, replicate, not, if◌then◌else◌, slice_get, Option, Some, None, Result, Ok, Err}
 use Rattle.ps_base.specs.declared.faults.Op.{Op}
 use Rattle.ps_base.specs.declared.faults.Op.TheVariants as ops
 use Rattle.byte_store.specs.declared.event.Event.{Event}
@@ -16,11 +16,10 @@ use Rattle.byte_store.specs.Operations.{and_then, plus, is_size}
 use Rattle.byte_store.specs.Worlds.{Surroundings}
 use Rattle.ps_types.specs.declared.types.Ty.{Ty, Ty-F, out-Ty}
 use Rattle.ps_types.specs.declared.types.RecordKind.{RecordKind}
-use Rattle.ps_prims.specs.declared.stages.Stage.{Stage}
 use Rattle.ps_prims.specs.declared.stages.Stage.TheVariants.{Compile, Run}
 use Rattle.ps_prims.specs.declared.stages.Stages.TheVariants.{Both}
 use Rattle.ps_prims.specs.Sorts.{Sort, Integer, Boolean, Char, Unit', Address, Text, Vector, Record, Any, Values, answered, collecting}
-use Rattle.ps_prims.specs.Acts.{Scene, Done, Act, finds, changes, unseen, Row}
+use Rattle.ps_prims.specs.Acts.{Done, Act, finds, changes, unseen, Row}
 
 -- ---- kinds and fields
 

@@ -6,7 +6,7 @@
 -- rounded toward zero. What rows do is said in Acts.antt, and for records in Records.antt: `row kinds (Maker k)` is the row of
 -- the maker of kind k of `kinds`. A row is wrong exactly where the number or the sorts of its operands are not those that it
 -- takes.
-use Rattle.std.specs.Prelude.{ℕ, ℤ, pos, negsuc, ◌/◌, ◌^◌, ◌+ℤ◌, ◌-ℤ◌, ◌*ℤ◌, List, [], ◌∷◌, ◌++◌, map, replicate, Bool, true, false, not, ◌||◌, nat_eq, nat_lt, int_lt, int_div, int_rem, bytes_eq, if◌then◌else◌, Option, Some, None, Result, Ok, Err}
+use Rattle.std.specs.Prelude.{ℕ, ℤ, pos, negsuc, ◌/◌, ◌^◌, ◌+ℤ◌, ◌-ℤ◌, ◌*ℤ◌, List, [], ◌∷◌, Bool, true, false, not, ◌||◌, nat_eq, nat_lt, int_lt, int_div, int_rem, if◌then◌else◌, Option, Some, None, Result, Ok, Err}
 use Rattle.std.specs.Ordering.{int_eq}
 use Rattle.std.specs.Int.{w64, int_bit_and, int_bit_or, int_bit_xor, int_bit_not, int_shl, int_shr, cast_signed, cast_unsigned}
 use Rattle.ps_base.specs.declared.faults.Op.{Op}

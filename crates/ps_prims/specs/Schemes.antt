@@ -9,7 +9,7 @@ use Rattle.ps_types.specs.declared.types.RecordKind.{RecordKind}
 use Rattle.ps_types.specs.declared.types.Scheme.{Scheme}
 use Rattle.ps_prims.specs.Sorts.{Sort, Integer, Boolean, Char, Unit', Address, Text, Vector, Record, Any, first_order}
 use Rattle.ps_prims.specs.Records.{fields, maker_order}
-use Rattle.ps_prims.specs.Rows.{Row, row}
+use Rattle.ps_prims.specs.Rows.{row}
 
 -- the type variable of a row is number 0
 abbrev pub type_of : Sort → Ty

@@ -1,4 +1,4 @@
-use Rattle.std.proofs.Common.{◌≡◌, Some, refl}
+use Rattle.std.proofs.Common.{Some, refl}
 use Rattle.ps_prims.specs.Sorts.{Integer, Boolean, Char, Unit', Address, Text, Vector, Record, Any, as_unit}
 use Rattle.ps_prims.proofs.ValuesAreCollected.{is_of_sort}
 use Rattle.ps_prims.proofs.operands.is_of.Goals as goal

@@ -1,4 +1,4 @@
-use Rattle.std.proofs.Common.{sym, ap, subst, ◌∙◌, ◌<◌, map, Some}
+use Rattle.std.proofs.Common.{sym, ap, ◌∙◌, map, Some}
 use Rattle.byte_store.specs.declared.pointer.Value.TheVariants as value
 use Rattle.ps_prims.proofs.FieldsAreFilled.{each_set, each_within, scattered_end}
 use Rattle.ps_prims.proofs.records.placed.Goals as goal

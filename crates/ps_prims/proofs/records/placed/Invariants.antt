@@ -1,5 +1,5 @@
 -- Putting the rest to its places ends as putting all.
-use Rattle.std.proofs.Common.{◌≡◌, ◌≤◌, length, drop}
+use Rattle.std.proofs.Common.{◌≡◌, length, drop}
 use Rattle.std.specs.Prelude.{replicate}
 use Rattle.byte_store.specs.declared.pointer.Value.TheVariants as value
 use Rattle.ps_prims.specs.InsideRecords.{scattered}
