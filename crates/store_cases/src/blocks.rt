@@ -37,9 +37,7 @@ fn add_contents(
             text.push_str("cells")?;
             add_each(alloc, cells, text)
         }
-        Contents::Freed(length) => {
-            text.push_str(format!(in alloc; "freed {length}")?.as_str())
-        }
+        Contents::Freed(length) => { text.push_str(format!(in alloc; "freed {length}")?.as_str()) }
     }
 }
 
