@@ -8,7 +8,9 @@ pub fn row_text(alloc: Global, structures: u64, opened: u64) -> Result<String, A
     let mut text = String::new(alloc);
     for i in 0..structures {
         let export = export_of(alloc, i, structures)?;
-        text.push_str(format!(in alloc; "(define-structure s{i} (export {export}) (open")?.as_str())?;
+        text.push_str(format!(in alloc;
+            "(define-structure s{i} (export {export}) (open"
+        )?.as_str())?;
         put_opened(alloc, i, opened, &mut text)?;
         text.push_str("))\n")?;
     }
@@ -25,12 +27,7 @@ fn export_of(alloc: Global, i: u64, structures: u64) -> Result<String, AllocErro
 }
 
 // The names of the structures before this one, the nearest first, and at most so many.
-fn put_opened(
-    alloc: Global,
-    i: u64,
-    opened: u64,
-    text: &mut String,
-) -> Result<(), AllocError> {
+fn put_opened(alloc: Global, i: u64, opened: u64, text: &mut String) -> Result<(), AllocError> {
     for j in (i.saturating_sub(opened)..i).rev() {
         text.push_str(format!(in alloc; " s{j}")?.as_str())?;
     }
