@@ -12,3 +12,4 @@ pub mod OpenedNamesLead
 pub mod WalkIsPlayed
 pub mod UserIsNamed
 pub mod LinkingFollows
+pub mod WalksEndOneWay

@@ -11,3 +11,4 @@ pub mod Walking
 pub mod InsideWalking
 pub mod Playing
 pub mod Linking
+pub mod Laws

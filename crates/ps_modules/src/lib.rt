@@ -7,6 +7,7 @@ mod built_in;
 mod copies;
 mod files;
 mod forms;
+mod laws;
 mod linking;
 mod openings;
 mod shapes;
@@ -16,5 +17,6 @@ mod text;
 mod types;
 mod walking;
 
+pub use laws::walk_has_one_end;
 pub use linking::link;
 pub use types::{Export, Exports, Linked, Opened, Opens, Structure, Structures};

@@ -25,8 +25,7 @@ use std::alloc::Global;
 /// is the entry: those that it reaches by `open` are linked, each behind what it opens.
 ///
 /// `taken` is how many bytes the text had: it is within the limit of bytes of all texts, as are those of all files with it. The table
-/// of names must have room for as many names as bytes are left, and for two more. Its names stay, and others may be added, also where
-/// there is a fault.
+/// of names must have room for as many names as bytes are left, and for two more. Names may be added to it, also where there is a fault.
 ///
 /// # Errors
 ///
