@@ -13,3 +13,4 @@ pub mod WalkIsPlayed
 pub mod UserIsNamed
 pub mod LinkingFollows
 pub mod WalksEndOneWay
+pub mod OpenedStructuresStandBefore

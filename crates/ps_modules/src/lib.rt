@@ -17,6 +17,6 @@ mod text;
 mod types;
 mod walking;
 
-pub use laws::walk_has_one_end;
+pub use laws::{structures_stand_in_order, walk_has_one_end};
 pub use linking::link;
 pub use types::{Export, Exports, Linked, Opened, Opens, Structure, Structures};
