@@ -1,6 +1,6 @@
-//! Linking: from the data of a text to its structures, in the order in which they are evaluated, by `link`.
-//!
-//! A text has structures and interfaces, or is the body of one structure. Files are fetched from a search path of libraries.
+//! Linking: from the data of a text to its structures in the order in which they are evaluated, with files from a search path, by
+//! `link`, serving `linked` of `specs/Walking.antt`, the walk, and `Links` of `specs/Linking.antt`, what is answered of it. Which data
+//! are structures is said in `specs/Shapes.antt` and `Texts.antt`, which opened names differ in `specs/Openings.antt`.
 #![tactic(auto)]
 
 mod built_in;
