@@ -2,6 +2,7 @@
 
 use crate::data::{form_of, members, number_of, text_of, word};
 use crate::libraries::{Plan, library_of};
+use crate::linked::{linked_line, row_line};
 use crate::trouble::Trouble;
 use ps_base::{Bytes, Names};
 use ps_datum::Datum;
@@ -60,17 +61,25 @@ fn asked(
         }
     }
     match word(names, kind) {
-        b"fetch" => {
-            let mut line = String::new(alloc);
-            for wish in parts {
-                let (name, room) = wish_of(wish)?;
-                let answer = fetch(alloc, &mut libs, name, room);
-                put_answer(alloc, &answer, &mut line)?;
-            }
-            Ok(line)
-        }
+        b"fetch" => fetched_line(alloc, parts, &mut libs),
+        b"link" => linked_line(alloc, parts, &mut libs),
         _ => Err(Trouble::Unread(kind.place)),
     }
+}
+
+// What fetching these files one after another answers.
+fn fetched_line(
+    alloc: Global,
+    wishes: &[Datum],
+    libs: &mut Vec<Box<dyn Library>>,
+) -> Result<String, Trouble> {
+    let mut line = String::new(alloc);
+    for wish in wishes {
+        let (name, room) = wish_of(wish)?;
+        let answer = fetch(alloc, libs, name, room);
+        put_answer(alloc, &answer, &mut line)?;
+    }
+    Ok(line)
 }
 
 // The folders that words name, each in angle brackets.
@@ -93,6 +102,9 @@ fn line_of(rt: &HostRuntime, names: &Names, d: &Datum) -> Result<String, Trouble
     let (kind, parts) = form_of(d)?;
     match (word(names, kind), parts) {
         (b"folders", _) => folders(rt.alloc(), parts),
+        (b"row", [structures, opened]) => {
+            row_line(rt.alloc(), number_of(structures)?, number_of(opened)?)
+        }
         (_, [libraries, rest @ ..]) => asked(rt, names, kind, libraries, rest),
         _ => Err(Trouble::Unread(kind.place)),
     }

@@ -1,0 +1,16 @@
+pub mod Gathering
+pub mod Shaping
+pub mod Places
+pub mod NumbersAreFew
+pub mod FormsDefine
+pub mod NamesLead
+pub mod NamesAreTaken
+pub mod TextsAddFewNames
+pub mod PartsAreGathered
+pub mod StructuresAreMet
+pub mod OpenedNamesLead
+pub mod WalkIsPlayed
+pub mod UserIsNamed
+pub mod LinkingFollows
+pub mod WalksEndOneWay
+pub mod OpenedStructuresStandBefore

@@ -1,0 +1,14 @@
+pub mod Shapes
+pub mod InsideShapes
+pub mod BuiltIn
+pub mod Texts
+pub mod InsideTables
+pub mod InsideTexts
+pub mod Openings
+pub mod InsideOpenings
+pub mod Runs
+pub mod Walking
+pub mod InsideWalking
+pub mod Playing
+pub mod Linking
+pub mod Laws
