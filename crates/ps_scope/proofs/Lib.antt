@@ -1,0 +1,10 @@
+pub mod Places
+pub mod Trails
+pub mod Oldest
+pub mod Buckets
+pub mod Chains
+pub mod Pushing
+pub mod Standing
+pub mod Popping
+pub mod Counted
+pub mod Pairs
