@@ -1,0 +1,7 @@
+use Rattle.std.proofs.Common.{◌≡◌, map, take}
+use Rattle.ps_derived.specs.Seen.{idents, seen_binding}
+use Rattle.ps_derived.specs.Bindings.{names_of}
+use Rattle.ps_derived.proofs.bindings.variables_of.Given as goal
+
+abbrev pub invariant-loop-binding : goal.invariant-loop-binding
+invariant-loop-binding l = idents l.ids ≡ names_of (map seen_binding (take l.binding-index l.bindings))

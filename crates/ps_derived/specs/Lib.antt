@@ -1,0 +1,14 @@
+pub mod Forms
+pub mod Distinct
+pub mod PartsOf
+pub mod Bindings
+pub mod Clauses
+pub mod Records
+pub mod FieldTypes
+pub mod Quotation
+pub mod Parts
+pub mod Seen
+pub mod InsideClauses
+pub mod InsideRecords
+pub mod InsideBindings
+pub mod Worked
