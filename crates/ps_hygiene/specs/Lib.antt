@@ -1,0 +1,12 @@
+pub mod Answers
+pub mod Forms
+pub mod InsideOpening
+pub mod InsidePlaces
+pub mod InsideSettling
+pub mod Language
+pub mod Looks
+pub mod Meanings
+pub mod Opening
+pub mod Runs
+pub mod Transcriptions
+pub mod Worlds
