@@ -3,6 +3,7 @@
 //! `settled` of `Transcriptions.antt`, and `entered` of `Opening.antt`, by which a structure opens names.
 #![tactic(auto)]
 
+mod counts;
 mod extents;
 mod hygiene;
 mod meaning;

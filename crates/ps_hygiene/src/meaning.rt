@@ -72,7 +72,7 @@ impl Hygiene {
     }
 
     // The macro of a transcription.
-    fn macro_of(&self, stamp: u64) -> u32
+    pub(crate) fn macro_of(&self, stamp: u64) -> u32
         ensures { result ≡ macro_of self.now.world stamp }
     {
         let uses = self.uses.as_slice();
@@ -80,7 +80,7 @@ impl Hygiene {
         if at < uses.len() { uses[at] } else { 0 }
     }
 
-    fn structure_at(&self, at: Where) -> u32
+    pub(crate) fn structure_at(&self, at: Where) -> u32
         ensures { result ≡ structure_at self.now at }
     {
         match at {
