@@ -1,0 +1,9 @@
+pub mod ChangesPutOne
+pub mod StoresDoTheSame
+pub mod RowsDoTheSame
+pub mod ValuesStayInside
+pub mod WordsDoTheSame
+pub mod BodiesDoTheSame
+pub mod GroupsAreReached
+pub mod CopiesAreFaithful
+pub mod SurvivorsRunAlike
