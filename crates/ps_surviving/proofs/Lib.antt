@@ -7,3 +7,4 @@ pub mod BodiesDoTheSame
 pub mod GroupsAreReached
 pub mod CopiesAreFaithful
 pub mod SurvivorsRunAlike
+pub mod FormsLeaveEntries

@@ -1,11 +1,14 @@
--- The law of the runs of survivors.
-use Rattle.std.specs.Prelude.{◌≡◌, ℕ, length}
+-- The laws of the runs of survivors.
+use Rattle.std.specs.Prelude.{◌≡◌, ℕ, List, length, Option}
+use Rattle.byte_store.specs.declared.pointer.Value.{Value}
+use Rattle.byte_store.specs.Blocks.{Memory}
 use Rattle.byte_store.specs.Worlds.{Surroundings}
+use Rattle.ps_kernel.specs.declared.kernel.Kernel.{Kernel}
 use Rattle.ps_kernel.specs.declared.survivors.Survivors.{Survivors}
 use Rattle.ps_kernel.specs.Valid.{IsValid}
 use Rattle.ps_kernel.specs.Captured.{HasCaptured}
 use Rattle.ps_meaning.specs.Left.{IsLeft}
-use Rattle.ps_meaning.specs.Source.{Program, Source, Traced}
+use Rattle.ps_meaning.specs.Source.{Program, Source, Traced, Top, Finished}
 use Rattle.ps_survive.specs.Kept.{IsSurvivors}
 use Rattle.ps_surviving.specs.Begun.{Surviving, SurvivingTraced}
 
@@ -25,3 +28,8 @@ pub record RunsAlike (p : Program) (s : Survivors) : Type 0 where
 
 abbrev pub SurvivorsRunAlike : Type 0
 SurvivorsRunAlike = (p : Program) (s : Survivors) → IsLeftProgram p → IsSurvivors p s → RunsAlike p s
+
+-- what the forms of a kernel that keeps the rules come to, within some budget and with some number of cells, is such a program
+abbrev pub FormsLeavePrograms : Type 0
+FormsLeavePrograms = (k : Kernel) (budget cells : ℕ) (globals : List (Option Value)) (m : Memory Value) → IsValid k → HasCaptured k →
+    Top k budget cells ≡ Finished globals m → IsLeftProgram (record { kernel = k; globals = globals; memory = m })

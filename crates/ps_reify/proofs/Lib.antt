@@ -1,0 +1,4 @@
+pub mod ListsGoOn
+pub mod WalkGoesOnAsMeant
+pub mod CopiesAreOfTheSeen
+pub mod TablesTellDefinitions
