@@ -27,7 +27,9 @@ impl Hygiene {
     pub fn is_defined(&self, id: &Ident) -> bool
         ensures { result ≡ is_some (defined self.now.world.own self.now.world.structure (word_of id.now)) }
     {
-        self.own.find(self.structure, id.name, id.stamps.as_slice()).is_some()
+        self.own
+            .find(self.structure, id.name, id.stamps.as_slice())
+            .is_some()
     }
 
     /// In which structure the rules stand of the macro of a transcription.
