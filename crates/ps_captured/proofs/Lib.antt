@@ -1,0 +1,9 @@
+pub mod SetsHold
+pub mod NodesAreRead
+pub mod MarksAreSeen
+pub mod ReadingsSeeMarks
+pub mod SetsTell
+pub mod TablesTell
+pub mod ChasesReachAll
+pub mod KeptIsWhatIsReached
+pub mod ListsChangeNoText

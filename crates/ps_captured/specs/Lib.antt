@@ -1,0 +1,5 @@
+pub mod FixedSets
+pub mod Filled
+pub mod InsideReading
+pub mod InsideTables
+pub mod InsideKeeping
