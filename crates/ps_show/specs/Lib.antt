@@ -1,0 +1,7 @@
+pub mod Shown
+pub mod Words
+pub mod Bindings
+pub mod ShowText
+pub mod Answers
+pub mod InsidePages
+pub mod InsideForms
