@@ -61,7 +61,7 @@ fn asked(
         }
     }
     match word(names, kind) {
-        b"fetch" => fetched_line(alloc, parts, &mut libs),
+        b"fetch" => fetched_line(alloc, parts, libs),
         b"link" => linked_line(alloc, parts, &mut libs),
         _ => Err(Trouble::Unread(kind.place)),
     }
@@ -71,12 +71,13 @@ fn asked(
 fn fetched_line(
     alloc: Global,
     wishes: &[Datum],
-    libs: &mut Vec<Box<dyn Library>>,
+    libs: Vec<Box<dyn Library>>,
 ) -> Result<String, Trouble> {
+    let mut libs = libs;
     let mut line = String::new(alloc);
     for wish in wishes {
         let (name, room) = wish_of(wish)?;
-        let answer = fetch(alloc, libs, name, room);
+        let answer = fetch(alloc, &mut libs, name, room);
         put_answer(alloc, &answer, &mut line)?;
     }
     Ok(line)
