@@ -1,0 +1,2 @@
+pub mod FieldsAreDefined
+pub mod FormsAreNoted

@@ -1,0 +1,2 @@
+pub mod ListsAreBuilt
+pub mod Steps
