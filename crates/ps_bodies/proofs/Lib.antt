@@ -1,0 +1,4 @@
+mod CountedInTurn
+mod HeadsAreRead
+mod LabelsAreFewAndDiffer
+mod TestsFromBehind

@@ -1,0 +1,4 @@
+pub mod Bodies
+pub mod Branches
+pub mod InsideBodies
+pub mod InsideBranches
