@@ -1,0 +1,14 @@
+pub mod PartsForgetDepths
+pub mod ExpressionsForgetDepths
+pub mod DepthsAreUnseen
+pub mod Joins
+pub mod FormsGoDown
+pub mod FramesBegin
+pub mod PrimitivesAreCounted
+pub mod ScopesAreHeld
+pub mod TextsAreLighter
+pub mod RunsEnd
+pub mod FormsFollow
+pub mod LiteralsArePaid
+pub mod FormsComeToTop
+pub mod BlocksAreFew
