@@ -1,0 +1,3 @@
+pub mod EnvironmentsAreLeft
+pub mod NumberedFirst
+pub mod PlansOfLoops
