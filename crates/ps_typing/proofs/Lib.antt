@@ -1,0 +1,16 @@
+pub mod DataHasOneType
+pub mod TreesByParts
+pub mod TypingsByNode
+pub mod TypesAtConstructors
+pub mod RulesAreKept
+pub mod TextsOfGroups
+pub mod GroupsAreKept
+pub mod GroupsHaveOneOrder
+pub mod PartsAreTogether
+pub mod AnswersAreOne
+pub mod RenamedTypesHaveOneText
+pub mod AnswersHaveOneText
+pub mod TypesAreListed
+pub mod DataIsTypedByCells
+pub mod CasesAreUnfolded
+pub mod RowsByHand
