@@ -13,7 +13,7 @@ use Rattle.ps_typing.specs.Lines.{name_of, definition_line, lines_from}
 use Rattle.ps_typing.specs.Order.{Graph, ordered, IsOrder}
 use Rattle.ps_typing.specs.Rules.{Typing}
 use Rattle.ps_typing.specs.Texts.{survives, graph_of}
-use Rattle.ps_typing.specs.Typings.{IsPrincipal, Typed}
+use Rattle.ps_typing.specs.Typings.{IsPrincipal, IsTyped}
 use Rattle.ps_typing.specs.Laws.{OneText}
 use Rattle.ps_typing.proofs.GroupsAreKept.{definitions_stay}
 use Rattle.ps_typing.proofs.GroupsHaveOneOrder.{one_order}
@@ -38,12 +38,12 @@ group_in g listed (group ∷ groups) h d on = ⊎_elim
 pub group_of_node : (g : Graph) (groups : List (List ℕ)) → IsOrder g groups → (d : ℕ) → g.is_node d ≡ true → HasGroup groups d
 group_of_node g groups h d on = ⊎_elim (λ (a : stands_in d [] ≡ true). absurd cc) (λ (a : HasGroup groups d). a) (group_in g [] groups h.order d on)
 
-module _ (k : Kernel) (s : Survivors) (names : List Text) (T P : Typing) (a : Typed k s T) (b : Typed k s P) where
+module _ (k : Kernel) (s : Survivors) (names : List Text) (T P : Typing) (a : IsTyped k s T) (b : IsTyped k s P) where
   same_groups : a.groups ≡ b.groups
   same_groups = one_order (graph_of k s) a.groups b.groups a.order b.order
 
   -- the type of a definition is that of the principal typing
-  of_principal : (U : Typing) (c : Typed k s U) (d : ℕ) → survives k s d ≡ true → U.definition d ≡ c.typing.definition d
+  of_principal : (U : Typing) (c : IsTyped k s U) (d : ℕ) → survives k s d ≡ true → U.definition d ≡ c.typing.definition d
   of_principal U c d on =
       let g = group_of_node (graph_of k s) c.groups c.order d on in
       (c.settled.each g.group g.listed).definitions d g.stands ∙ definitions_stay c.typing g.group d g.stands

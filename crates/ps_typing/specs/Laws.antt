@@ -24,7 +24,7 @@ use Rattle.ps_typing.specs.Data.{IsSmall, block_at, IsData}
 use Rattle.ps_typing.specs.Order.{Graph, Together, IsReady, IsOrder, IsClosed, AreParts}
 use Rattle.ps_typing.specs.Rules.{Typing, Text, IsLocal, key_type, Types, listed}
 use Rattle.ps_typing.specs.Texts.{text_of}
-use Rattle.ps_typing.specs.Typings.{MentionsFrom, IsGroup, IsAt, IsTyping, IsSettled, Typed, FailsAt}
+use Rattle.ps_typing.specs.Typings.{MentionsFrom, IsGroup, IsAt, IsTyping, IsSettled, IsTyped, FailsAt}
 use Rattle.ps_typing.specs.Lines.{types_text}
 
 -- ---- data
@@ -96,7 +96,8 @@ TypesAreListed = (k : Kernel) (blocks : List NumberedBlock) (text : Text) (earli
     (is : List Ty) → Types k blocks text T (MentionsFrom earlier text T) e u is → ListsTypes e u is
 
 -- an expression may have a type
-pub record MayHave (k : Kernel) (blocks : List NumberedBlock) (text : Text) (earlier : ℕ → Bool) (T : Typing) (e : Expr) (u : Ty) : Type 0 where
+pub record MayHave (k : Kernel) (blocks : List NumberedBlock) (text : Text) (earlier : ℕ → Bool) (T : Typing)
+    (e : Expr) (u : Ty) : Type 0 where
   pub types : List Ty
   pub has : Types k blocks text T (MentionsFrom earlier text T) e u types
 
@@ -146,9 +147,9 @@ abbrev pub OneFault : Type 0
 OneFault = (k : Kernel) (s : Survivors) (d e : ℕ) → FailsAt k s d → FailsAt k s e → d ≡ e
 
 abbrev pub TypedIsNoFault : Type 0
-TypedIsNoFault = (k : Kernel) (s : Survivors) (T : Typing) (d : ℕ) → Typed k s T → FailsAt k s d → ⊥
+TypedIsNoFault = (k : Kernel) (s : Survivors) (T : Typing) (d : ℕ) → IsTyped k s T → FailsAt k s d → ⊥
 
 -- however inference names its variables, the lines that tell the types are the same
 abbrev pub OneText : Type 0
-OneText = (k : Kernel) (s : Survivors) (names : List Bytes) (T P : Typing) → Typed k s T → Typed k s P
+OneText = (k : Kernel) (s : Survivors) (names : List Bytes) (T P : Typing) → IsTyped k s T → IsTyped k s P
     → types_text k s names T ≡ types_text k s names P

@@ -24,7 +24,9 @@ definition_line kinds names d t =
 abbrev pub lines_from : Kernel → Survivors → List Text → Typing → ℕ → List Definition → Text
 lines_from k s names T d [] = []
 lines_from k s names T d (x ∷ xs) =
-    if survives k s d then definition_line k.kinds names x (T.definition d) & lines_from k s names T (suc d) xs else lines_from k s names T (suc d) xs
+    if survives k s d
+    then definition_line k.kinds names x (T.definition d) & lines_from k s names T (suc d) xs
+    else lines_from k s names T (suc d) xs
 
 abbrev pub types_text : Kernel → Survivors → List Text → Typing → Text
 types_text k s names T = lines_from k s names T 0 k.definitions

@@ -118,9 +118,11 @@ module _ (k : Kernel) (blocks : List NumberedBlock) (text : Text) (T : Typing) (
   -- each local of a letrec has the type of its lambda, which is listed
   abbrev pub group_typed : List GroupEntry → List Ty → Type 0
   group_typed [] is = is ≡ []
-  group_typed (e ∷ es) is = IsLocal text T e.local (T.local e.local) × IsLambda k text T e.lambda (T.local e.local) × noted (T.local e.local) (group_typed es) is
+  group_typed (e ∷ es) is = IsLocal text T e.local (T.local e.local) × IsLambda k text T e.lambda (T.local e.local)
+      × noted (T.local e.local) (group_typed es) is
 
-  abbrev pub typed : (X Y Z : Type 0) → (X → ExprKind) → (Y → Expr) → (Z → Labelled) → (X → Rule) → (Y → Rule) → (Z → Rule) → ExprKind-F X Y Z → Rule
+  abbrev pub typed : (X Y Z : Type 0) → (X → ExprKind) → (Y → Expr) → (Z → Labelled) → (X → Rule) → (Y → Rule) → (Z → Rule)
+      → ExprKind-F X Y Z → Rule
   typed X Y Z v w b i h g (ExprKind-F.Constant c) u is = constant_has k blocks c u × (is ≡ [])
   typed X Y Z v w b i h g (ExprKind-F.Local x) u is = IsLocal text T x u × (is ≡ [])
   typed X Y Z v w b i h g (ExprKind-F.Global d) u is = mentions d u × (is ≡ [])
@@ -136,18 +138,21 @@ module _ (k : Kernel) (blocks : List NumberedBlock) (text : Text) (T : Typing) (
   typed X Y Z v w b i h g (ExprKind-F.ProperCall f es) u is = (ts : List Ty) × joined (h f (ty.Proc ts u)) (each_typed h es ts) is
   typed X Y Z v w b i h g (ExprKind-F.Primitive p es) u is = (ts : List Ty) × IsOperation k.kinds p ts u × each_typed h es ts is
 
-  abbrev pub typed_expr : (X Y Z : Type 0) → (X → ExprKind) → (Y → Expr) → (Z → Labelled) → (X → Rule) → (Y → Rule) → (Z → Rule) → Expr-F X Y Z → Rule
+  abbrev pub typed_expr : (X Y Z : Type 0) → (X → ExprKind) → (Y → Expr) → (Z → Labelled) → (X → Rule) → (Y → Rule) → (Z → Rule)
+      → Expr-F X Y Z → Rule
   typed_expr X Y Z v w b i h g e u is = noted u (i e.kind u) is
 
   -- a branch has the type of its expression
-  abbrev pub typed_branch : (X Y Z : Type 0) → (X → ExprKind) → (Y → Expr) → (Z → Labelled) → (X → Rule) → (Y → Rule) → (Z → Rule) → Labelled-F X Y Z → Rule
+  abbrev pub typed_branch : (X Y Z : Type 0) → (X → ExprKind) → (Y → Expr) → (Z → Labelled) → (X → Rule) → (Y → Rule) → (Z
+      → Rule) → Labelled-F X Y Z → Rule
   typed_branch X Y Z v w b i h g e u is = h e.body u is
 
   abbrev pub types : Expr → Rule
   types = rec-Expr Rule Rule Rule typed typed_expr typed_branch
 
 -- an expression has a type, and so do the expressions in it
-pub record Types (k : Kernel) (blocks : List NumberedBlock) (text : Text) (T : Typing) (mentions : ℕ → Ty → Type 0) (e : Expr) (u : Ty) (is : List Ty) : Type 0 where
+pub record Types (k : Kernel) (blocks : List NumberedBlock) (text : Text) (T : Typing) (mentions : ℕ → Ty → Type 0)
+    (e : Expr) (u : Ty) (is : List Ty) : Type 0 where
   pub typing : types k blocks text T mentions e u is
 
 -- ---- how many types the rules list

@@ -3,7 +3,7 @@
 -- Groups of definitions are typed in the order of `Order`. The type of a definition may have any types for its variables, once its
 -- group is typed: so a mention from a later group may have any instance of it, and a mention from its own group has the type
 -- itself. Data has no variables, so nothing of it is changed by that. Read `IsTyping k s groups T` as: T types these groups, one
--- after another. Read `IsPrincipal` as: whatever types them is an instance, group by group. Read `Typed` and `FailsAt` last: they
+-- after another. Read `IsPrincipal` as: whatever types them is an instance, group by group. Read `IsTyped` and `FailsAt` last: they
 -- say what inference answers.
 use Rattle.std.specs.Prelude.{◌≡◌, ℕ, Bool, true, false, ◌==◌, if◌then◌else◌, List, [], ◌∷◌, ◌++◌, map, Option, Some, None}
 use Rattle.ps_types.specs.declared.types.Ty.{Ty}
@@ -101,7 +101,7 @@ pub record IsSettled (k : Kernel) (s : Survivors) (groups : List (List ℕ)) (P 
 -- ---- what inference answers
 
 -- T is a principal typing of all that survives, with integer for what nothing fixes
-pub record Typed (k : Kernel) (s : Survivors) (T : Typing) : Type 0 where
+pub record IsTyped (k : Kernel) (s : Survivors) (T : Typing) : Type 0 where
   pub groups : List (List ℕ)
   pub order : IsOrder (graph_of k s) groups
   pub typing : Typing

@@ -115,7 +115,8 @@ names = codes "user" ∷ codes "identity" ∷ codes "main" ∷ []
 
 pub record IdentityHasTwoTypes : Type 0 where
   pub typing : IsTyping generic generic_survivors ((0 ∷ []) ∷ (1 ∷ []) ∷ []) generic_typing
-  pub text : types_text generic generic_survivors names generic_typing ≡ codes "user/identity : (proc (t0) t0)\nuser/main : (proc () integer)\n"
+  pub text : types_text generic generic_survivors names generic_typing
+      ≡ codes "user/identity : (proc (t0) t0)\nuser/main : (proc () integer)\n"
 
 -- ---- a local
 

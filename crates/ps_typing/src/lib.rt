@@ -1,6 +1,6 @@
 //! The types of what survives, as definitions and laws of them. No call computes.
 //! From a kernel and its survivors to a typing: the rules, a row for each kind of expression, in `specs/Rules.antt`, with the types
-//! of data in `specs/Data.antt`; groups and their order in `specs/Order.antt` and `Texts.antt`; what inference answers, `Typed` and
+//! of data in `specs/Data.antt`; groups and their order in `specs/Order.antt` and `Texts.antt`; what inference answers, `IsTyped` and
 //! `FailsAt`, in `specs/Typings.antt`.
 #![tactic(auto)]
 
